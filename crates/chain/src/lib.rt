@@ -1,0 +1,23 @@
+mod chains;
+mod entry;
+mod laws;
+mod link;
+mod moving;
+mod opening;
+mod reading;
+mod removing;
+mod sizes;
+
+pub use crate::chains::Chains;
+pub use crate::laws::blocks_are_covered;
+pub use crate::laws::creating_appends;
+pub use crate::laws::deleting_takes_one;
+pub use crate::laws::members_go_first;
+pub use crate::laws::owners_are_used;
+pub use crate::laws::tables_are_pinned;
+pub use crate::laws::walking_visits;
+pub use crate::link::Branch;
+pub use crate::link::Chain;
+pub use crate::link::Index;
+pub use crate::link::Link;
+pub use crate::link::MEMBER_CHAINS;

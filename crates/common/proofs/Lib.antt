@@ -1,0 +1,2 @@
+-- The lemmas of what both makes hold alike. Assumes nothing.
+pub mod Names

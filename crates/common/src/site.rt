@@ -1,0 +1,90 @@
+// The settings of a site.
+ghost use mathlib.Core.Path.{_≡_};
+ghost use mathlib.Core.List.{[], _∷_};
+ghost use Prim.Native.Nat.{_+_, _≤_};
+ghost use lib.ListN.{length, getD};
+ghost use Rattle.text.specs.Buffer.{put};
+ghost use Rattle.sorts.specs.declared.sort.StartingName.the-variants.{Site};
+ghost use Rattle.sorts.specs.Plans.{reserveRow};
+ghost use Rattle.sorts.specs.Settings.{withName};
+ghost use Rattle.common.specs.Site.{siteRows, newSite, siteTexts, writtenSite};
+use sorts::FieldRow;
+use sorts::QuickKey;
+use sorts::Sort;
+use sorts::StartingName;
+use sorts::put_quick_key;
+use sorts::read_flag;
+use sorts::read_quick_key;
+use sorts::read_small;
+use text::buffer::put_bytes;
+use text::number::put_number;
+
+const HIGHEST_KEY: u8 = 99;
+
+const LONGEST_HOLD: u8 = 255;
+
+#[derive(Clone, Copy)]
+pub struct SiteSettings {
+    pub key: QuickKey,
+    pub hold: u8,
+    pub lockout: u8,
+}
+
+impl SiteSettings {
+    pub fn new() -> SiteSettings
+        ensures value { λ r. ⌜ r ≡ newSite ⌝ }
+    {
+        SiteSettings {
+            key: QuickKey::Dot,
+            hold: 0,
+            lockout: 0,
+        }
+    }
+
+    // The row of a field.
+    pub fn row(field: usize) -> FieldRow
+        ensures name { λ r. ⌜ now (r .name) ≡ getD (withName Site siteRows) field reserveRow .name ⌝ }
+        ensures sort { λ r. ⌜ r .sort ≡ getD (withName Site siteRows) field reserveRow .sort ⌝ }
+    {
+        match field {
+            0 => FieldRow::new(b"NAME", Sort::Name(StartingName::Site)),
+            1 => FieldRow::new(b"QUICK_KEY", Sort::QuickKey { high: HIGHEST_KEY }),
+            2 => FieldRow::small(b"HLD", 0, LONGEST_HOLD),
+            3 => FieldRow::flag(b"LOUT"),
+            _ => FieldRow::reserve(),
+        }
+    }
+
+    // Writes a text into a field, if it is a setting and the text is legal there.
+    pub fn write(&mut self, field: usize, text: &[u8])
+        ensures after { λ _. ⌜ now (self .exit) ≡ writtenSite (now (self .entry)) field (now (text .entry)) ⌝ }
+    {
+        match field {
+            1 => if let Some(key) = read_quick_key(text, HIGHEST_KEY) {
+                self.key = key;
+            },
+            2 => if let Some(n) = read_small(text, 0, LONGEST_HOLD) {
+                self.hold = n;
+            },
+            3 => if let Some(n) = read_flag(text) {
+                self.lockout = n;
+            },
+            _ => {}
+        }
+    }
+
+    // Puts the text that a field shows.
+    pub fn show(&self, field: usize, out: &mut [u8], at: usize) -> usize
+        requires room { ⌜ at + 24 ≤ length (now out) ⌝ }
+        ensures bound { λ r. ⌜ r ≤ at + 24 ⌝ }
+        ensures end { λ r. ⌜ r ≡ at + length (getD ([] ∷ siteTexts (now (self .entry))) field []) ⌝ }
+        ensures buffer { λ _. ⌜ now (out .exit) ≡ put (now (out .entry)) at (getD ([] ∷ siteTexts (now (self .entry))) field []) ⌝ }
+    {
+        match field {
+            1 => put_quick_key(out, at, self.key),
+            2 => put_number(out, at, self.hold as u32),
+            3 => put_number(out, at, self.lockout as u32),
+            _ => put_bytes(out, at, b""),
+        }
+    }
+}

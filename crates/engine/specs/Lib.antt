@@ -1,0 +1,3 @@
+pub mod Gives
+pub mod Chains
+pub mod View

@@ -1,0 +1,10 @@
+pub mod Limits
+pub mod Commands
+pub mod Ledger
+pub mod Records
+pub mod Replies
+pub mod Texts
+pub mod Steps
+pub mod Lines
+pub mod Runs
+pub mod Answers

@@ -1,0 +1,2 @@
+-- The lemmas of makes of record. Assumes nothing.
+pub mod Names

@@ -1,0 +1,11 @@
+-- Equality of slices is equality of bytes.
+use Rattle.std.specs.shelf.Text.{sameBytes}
+use Rattle.std.proofs.shelf.Equals.{matches-decides, sameBytes-decides}
+use Rattle.std.proofs.shelf.Ways.{same-from-decides}
+use Rattle.make.proofs.bytes.same_bytes.Needs as need
+
+pub returns : need.returns
+returns c =
+    let a = c .args .left .now in
+    let b = c .args .right .now in
+    record { value = same-from-decides (c .eq .result) (sameBytes a b) (matches-decides a b (c .eq .result) (c .eq .ensures)) (sameBytes-decides a b) }

@@ -1,0 +1,4 @@
+pub mod Bounds
+pub mod Holdings
+pub mod Stores
+pub mod Fields

@@ -1,0 +1,33 @@
+// The sorts of field: reading, testing and showing their texts.
+mod laws;
+mod name;
+mod range;
+mod row;
+mod signed;
+mod sort;
+mod takes;
+mod value;
+mod word;
+
+pub use laws::plans_keep;
+pub use laws::sorts_keep;
+pub use name::read_name;
+pub use range::read_between;
+pub use range::read_flag;
+pub use range::read_frequency;
+pub use range::read_small;
+pub use row::FieldRow;
+pub use signed::read_delay;
+pub use signed::read_offset;
+pub use sort::Sort;
+pub use sort::StartingName;
+pub use value::Modulation;
+pub use value::NameText;
+pub use value::QuickKey;
+pub use value::Tag;
+pub use word::put_modulation;
+pub use word::put_quick_key;
+pub use word::put_tag;
+pub use word::read_modulation;
+pub use word::read_quick_key;
+pub use word::read_tag;
