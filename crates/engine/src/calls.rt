@@ -16,7 +16,25 @@ use make::Make;
 use memory::Memory;
 
 // A reply buffer has at least this many bytes.
-const LEAST_BUFFER: usize = 600;
+pub const LEAST_BUFFER: usize = 600;
+
+// What a line is answered: number 1 where the buffer is too short, and then nothing is done.
+fn answer<M: Make>(
+    memory: &mut Memory<'_, M>,
+    session: &mut Session,
+    line: &[u8],
+    out: &mut [u8],
+) -> Answer
+    ensures answer { λ r. ⌜ r ≡ answerOf (now (out .entry)) (step (M·Make .spec) (ledgerOf (M·Make .kindof) (M·Make .systemtype) (M·Make .texts) (now (session .entry)) (now (memory .entry) .pool)) (now (line .entry)) .said) ⌝ }
+    ensures buffer { λ _. ⌜ now (out .exit) ≡ bufferOf (now (out .entry)) (step (M·Make .spec) (ledgerOf (M·Make .kindof) (M·Make .systemtype) (M·Make .texts) (now (session .entry)) (now (memory .entry) .pool)) (now (line .entry)) .said) ⌝ }
+    ensures ledger { λ _. ⌜ ledgerOf (M·Make .kindof) (M·Make .systemtype) (M·Make .texts) (now (session .exit)) (now (memory .exit) .pool) ≡ nextOf (now (out .entry)) (ledgerOf (M·Make .kindof) (M·Make .systemtype) (M·Make .texts) (now (session .entry)) (now (memory .entry) .pool)) (step (M·Make .spec) (ledgerOf (M·Make .kindof) (M·Make .systemtype) (M·Make .texts) (now (session .entry)) (now (memory .entry) .pool)) (now (line .entry)) .next) ⌝ }
+    ensures spared { λ _. ⌜ Spared (now (memory .entry) .pool) (now (memory .exit) .pool) ⌝ }
+{
+    if out.len() < LEAST_BUFFER {
+        return Answer::ShortBuffer;
+    }
+    Answer::Reply(hear(memory, session, line, out))
+}
 
 // Does what a line asks, and puts its reply at the front of the buffer. A buffer that is too short gets number 1, and nothing is done.
 pub fn command<M: Make>(
@@ -31,8 +49,5 @@ pub fn command<M: Make>(
     ensures links { λ _. ⌜ ((i : ℕ) → 1 ≤ i → i ≤ now (memory .exit) .pool .chains .count → getD (now (now (memory .exit) .pool .chains .links)) (i - 1) nowhere ≡ linkOf (blocksOf (now (memory .exit) .pool .chains)) i) ⌝ }
     ensures spared { λ _. ⌜ Spared (now (memory .entry) .pool) (now (memory .exit) .pool) ⌝ }
 {
-    if out.len() < LEAST_BUFFER {
-        return Answer::ShortBuffer;
-    }
-    Answer::Reply(hear(memory, session, line, out))
+    answer(memory, session, line, out)
 }

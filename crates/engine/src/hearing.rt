@@ -31,7 +31,7 @@ use reply::short::say_ok;
 use reply::short::say_orer;
 
 // A line has at most this many bytes.
-const LONGEST_LINE: usize = 256;
+pub const LONGEST_LINE: usize = 256;
 
 // PRG, EPG: turns the mode, if no field was given.
 fn turn(mode: &mut Mode, to: Mode, command: Command, count: usize, out: &mut [u8]) -> usize

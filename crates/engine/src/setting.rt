@@ -18,7 +18,7 @@ use reply::short::say_ok;
 use text::field::Fields;
 
 // Tests every field of a set line, and writes them all, or none.
-pub(crate) fn set<M: Make>(
+pub fn set<M: Make>(
     memory: &mut Memory<'_, M>,
     command: Command,
     x: Index,

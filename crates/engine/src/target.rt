@@ -14,11 +14,7 @@ use make::Make;
 use memory::Memory;
 
 // The living record that a text names, if the command is for such a record.
-pub(crate) fn find_target<M: Make>(
-    memory: &Memory<'_, M>,
-    command: Command,
-    text: &[u8],
-) -> Option<Index>
+pub fn find_target<M: Make>(memory: &Memory<'_, M>, command: Command, text: &[u8]) -> Option<Index>
     ensures { λ r. ⌜ Cases r (target (storeOf (M·Make .kindof) (M·Make .systemtype) (M·Make .texts) (now (memory .entry) .pool)) command (now (text .entry)) ≡ None) (λ i. (target (storeOf (M·Make .kindof) (M·Make .systemtype) (M·Make .texts) (now (memory .entry) .pool)) command (now (text .entry)) ≡ Some (i .number)) × (living (storeOf (M·Make .kindof) (M·Make .systemtype) (M·Make .texts) (now (memory .entry) .pool)) (i .number) ≡ true)) ⌝ }
 {
     let x = read_index(text, memory.count())?;
