@@ -1,0 +1,14 @@
+pub mod Asking
+pub mod Rows
+pub mod Reading
+pub mod Promised
+pub mod Silence
+pub mod Stepping
+pub mod Removing
+pub mod Steadily
+pub mod Accounts
+pub mod Histories
+pub mod Freeing
+pub mod Sparing
+pub mod Courses
+pub mod Lasted
