@@ -8,16 +8,11 @@ use Rattle.ledger.specs.Runs.{Given, Told, next, answers, after}
 use Rattle.history.specs.Orderly.{Steady}
 use Rattle.history.specs.History.{Born, heard, account}
 use Rattle.history.specs.Freed.{sparedAt, spares}
-use Rattle.history.proofs.Stepping.{Moved, moved}
+use Rattle.history.specs.Course.{Moved, Course}
+use Rattle.history.proofs.Stepping.{moved}
 use Rattle.history.proofs.Steadily.{steady-moved}
 use Rattle.history.proofs.Histories.{Tale, told-moved}
 use Rattle.history.proofs.Sparing.{free-moved}
-
--- over the lines, which got ts, the store L became L′
-abbrev pub Course : MakeSpec → Store → List Given → List Told → Store → Type 0
-Course S L [] ts L′ = L′ ≡ L
-Course S L (g ∷ gs) [] L′ = L′ ≡ L
-Course S L (g ∷ gs) (t ∷ ts) L′ = (M : Store) × (Moved S L (g .line) M t × Course S M gs ts L′)
 
 -- lines given whole
 pub course-lines : (S : MakeSpec) (gs : List Given) (L : Ledger) → Course S (L .store) gs (answers S L gs) (after S L gs .store)

@@ -41,7 +41,8 @@ use Rattle.history.specs.Told.{indexTold}
 use Rattle.history.specs.History.{Born, ownerIn, accepted, named, bornAt, bornTyped, bornUnder, kindIn, lowKind, gone, goneAt, reset, retold, retoldAt, readOrRetold, lived, livedBy, heard, bornNumbered, bornAs, membersOf, Tells}
 use Rattle.history.proofs.Asking.{told-back}
 use Rattle.history.proofs.Silence.{Silent, silent-err, ok-got, none-told}
-use Rattle.history.proofs.Stepping.{Quiet, Moved, by-move}
+use Rattle.history.specs.Course.{Moved}
+use Rattle.history.proofs.Stepping.{Quiet, by-move}
 use Rattle.history.proofs.Removing.{one-chain, Gone, occ-minus}
 use Rattle.history.proofs.Steadily.{Aimed, aimed, chain-empty, in-range, open-first, open-second, leaving, clear}
 use Rattle.history.proofs.Accounts.{entry, blockOf, Parts, After, Each, each-more, Stands, all-stand, told-of, kind-told, part-++, after-one, map-same, part-map, map-twice, after-map, keep, parts-kept, Fits, gone-is, after-keep, count-told}

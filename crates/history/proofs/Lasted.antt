@@ -26,13 +26,14 @@ use Rattle.history.specs.Promise.{Promise, asked, about, gets, beforeAt, walke
 use Rattle.history.specs.History.{Born, indexes, indexesIn, membersOf, account, Tells}
 use Rattle.history.specs.Freed.{spares}
 use Rattle.history.specs.Lasting.{Among, Lasting}
-use Rattle.history.specs.Faithful.{Faithful}
+use Rattle.history.specs.Course.{Course}
+use Rattle.history.specs.Faithful.{Recounted, Faithful}
 use Rattle.history.proofs.Accounts.{Each, Stands, all-stand, count-told, occ-told}
 use Rattle.history.proofs.Promised.{promised}
 use Rattle.history.proofs.Steadily.{steady-emptied}
 use Rattle.history.proofs.Sparing.{row}
 use Rattle.history.proofs.Histories.{Tale, empty-told, tale-tells}
-use Rattle.history.proofs.Courses.{Course, course-lines, Known, known-course}
+use Rattle.history.proofs.Courses.{course-lines, Known, known-course}
 
 each-among : (P : Born → Type 0) (b : Born) (bs : List Born) → Each P bs → Among b bs → P b
 each-among P b [] e a = absurd a
@@ -113,12 +114,14 @@ module _ (S : MakeSpec) (K : Keeps S) (n : ℕ) (few : n ≤ 45000) (lines : Lis
   pub run-lasting : Lasting S n (after S (opened S n) lines) (account S [] lines (answers S (opened S n) lines)) (spares S n [] (run 1 n) lines (answers S (opened S n) lines))
   run-lasting = course-lasting S K n few lines all last whole
 
+-- all that is told of a course
+pub course-recounted : (S : MakeSpec) → Keeps S → (n : ℕ) → n ≤ 45000 → (lines : List Given) (got : List Told) (L : Ledger) → Course S (emptied S n) lines got (L .store) → Recounted S n lines got L
+course-recounted S K n few lines got L c = record { records = course-tells S K n few lines got L c; free = course-free S K n few lines got L c; lasting = course-lasting S K n few lines got L c }
+
 -- a run that answers as the ledger does, and stands for it
 pub run-faithful : (S : MakeSpec) → Keeps S → (n : ℕ) → n ≤ 45000 → (lines : List Given) (got : List Told) (L : Ledger) → got ≡ answers S (opened S n) lines → L ≡ after S (opened S n) lines → Faithful S n lines got L
 run-faithful S K n few lines got L replies ledger = record {
   replies = replies;
   ledger = ledger;
-  records = subst (λ z. Tells (z .store) (account S [] lines got)) (sym ledger) (subst (λ t. Tells (after S (opened S n) lines .store) (account S [] lines t)) (sym replies) (run-tells S K n few lines));
-  free = ap (λ z. z .store .blocks .free) ledger ∙ run-free S K n few lines ∙ ap (spares S n [] (run 1 n) lines) (sym replies);
-  lasting = subst (λ z. Lasting S n z (account S [] lines got) (spares S n [] (run 1 n) lines got)) (sym ledger) (subst (λ t. Lasting S n (after S (opened S n) lines) (account S [] lines t) (spares S n [] (run 1 n) lines t)) (sym replies) (run-lasting S K n few lines));
+  recounted = course-recounted S K n few lines got L (subst (λ M. Course S (emptied S n) lines got (M .store)) (sym ledger) (subst (λ ts. Course S (emptied S n) lines ts (after S (opened S n) lines .store)) (sym replies) (whole S K n few lines)));
 }

@@ -42,7 +42,8 @@ use Rattle.history.proofs.Freeing.{order, joined-same, Ranked, frees}
 use Rattle.history.proofs.Steadily.{Aimed, aimed, clear}
 use Rattle.history.proofs.Accounts.{blockOf, blocks-map, rank, rank-rises, count-told}
 use Rattle.history.proofs.Silence.{Silent, silent-err, ok-got, none-told}
-use Rattle.history.proofs.Stepping.{Quiet, Moved, by-move}
+use Rattle.history.specs.Course.{Moved}
+use Rattle.history.proofs.Stepping.{Quiet, by-move}
 use Rattle.history.proofs.Histories.{Tale}
 
 -- the order in which an account's records go is that of the blocks

@@ -36,7 +36,8 @@ use Rattle.ledger.specs.Steps.{Outcome, done, at, says, ok, refused, grown, cre
 use Rattle.ledger.specs.Lines.{fields}
 use Rattle.ledger.specs.Runs.{Told, told, next}
 use Rattle.history.specs.Orderly.{Orderly, Steady, slot}
-use Rattle.history.proofs.Stepping.{Moved, by-move}
+use Rattle.history.specs.Course.{Moved}
+use Rattle.history.proofs.Stepping.{by-move}
 use Rattle.history.proofs.Removing.{Clear, Left, Gone, minus, minus-nil, goes}
 
 -- what tables keep makes their blocks orderly

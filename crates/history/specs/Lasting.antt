@@ -44,14 +44,14 @@ pub record Lasting (S : MakeSpec) (n : ℕ) (L : Ledger) (bs : List Born) (fs : 
   pub onward : (c : Chain) (m : ℕ) → length (indexesIn c bs) ≤ m → walked S L Fwd m (headOr 0 (indexesIn c bs)) ≡ indexesIn c bs
   pub homeward : (c : Chain) (m : ℕ) → length (indexesIn c bs) ≤ m → walked S L Rev m (lastOr 0 (indexesIn c bs)) ≡ reverse (indexesIn c bs)
   -- each block is free or has one record of the account, and not both
-  pub once : (i : ℕ) → 1 ≤ i → i ≤ n → occ i (fs) + occ i (indexes bs) ≡ 1
-  pub within : (i : ℕ) → 1 ≤ occ i (fs) + occ i (indexes bs) → (1 ≤ i) × (i ≤ n)
+  pub once : (i : ℕ) → 1 ≤ i → i ≤ n → occ i fs + occ i (indexes bs) ≡ 1
+  pub within : (i : ℕ) → 1 ≤ occ i fs + occ i (indexes bs) → (1 ≤ i) × (i ≤ n)
   -- a block without a record gets ERR
   pub idle : (i : ℕ) → 1 ≤ i → i ≤ n → occ i (indexes bs) ≡ 0 → asked S L (about Fwd i) ≡ said err
   -- a creation answers the front free block, or -1 where none is free or where there are as many systems as there may be
-  pub system : (k : ℕ) → k < length (S .types) → length (indexesIn Root bs) < mostSystems → asked S L (naming Csy (getD (S .types) k [])) ≡ gets Csy (shown (headOr 0 (fs)) ∷ [])
+  pub system : (k : ℕ) → k < length (S .types) → length (indexesIn Root bs) < mostSystems → asked S L (naming Csy (getD (S .types) k [])) ≡ gets Csy (shown (headOr 0 fs) ∷ [])
   pub crowded : (k : ℕ) → k < length (S .types) → mostSystems ≤ length (indexesIn Root bs) → asked S L (naming Csy (getD (S .types) k [])) ≡ gets Csy (shown 0 ∷ [])
-  pub member : (c : Command) (b : Born) → adds c ≡ true → Among b bs → isFor c (b .holds) ≡ true → asked S L (about c (b .block)) ≡ gets c (shown (headOr 0 (fs)) ∷ [])
+  pub member : (c : Command) (b : Born) → adds c ≡ true → Among b bs → isFor c (b .holds) ≡ true → asked S L (about c (b .block)) ≡ gets c (shown (headOr 0 fs) ∷ [])
   -- RMB answers the block count less the records of the account
   pub spare : asked S L (codes "RMB") ≡ gets Rmb (decimal (n - length bs) ∷ [])
   -- a read of a record shows the account's type and texts, and the oldest and the newest record of its first chain

@@ -4,5 +4,6 @@ pub mod Promise
 pub mod History
 pub mod Freed
 pub mod Lasting
+pub mod Course
 pub mod Faithful
 pub mod Example

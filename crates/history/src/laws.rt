@@ -1,6 +1,6 @@
 // The laws over runs: each function's contract is a law, and the function itself does nothing.
 ghost use Rattle.history.specs.Example.{Worked};
-ghost use Rattle.history.specs.Faithful.{RunsStand};
+ghost use Rattle.history.specs.Faithful.{CoursesStand, RunsStand};
 ghost use Rattle.history.specs.Freed.{FreeStands};
 ghost use Rattle.history.specs.History.{HistoryStands};
 ghost use Rattle.history.specs.Lasting.{AccountStands};
@@ -35,6 +35,11 @@ pub fn free_stands()
 // After any lines, further lines show the records that the lines and what they got tell of.
 pub fn account_stands()
     ensures { λ _. ⌜ AccountStands ⌝ }
+{}
+
+// The same where each line was refused or its command done, however the line was given.
+pub fn courses_stand()
+    ensures { λ _. ⌜ CoursesStand ⌝ }
 {}
 
 // An engine that answers each line as the ledger does, and stands for the ledger, keeps all of these.
