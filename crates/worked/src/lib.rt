@@ -4,5 +4,4 @@ ghost use Rattle.worked.specs.Rows.{RowsStand};
 // Eight rows of lines on four blocks of the BCD996T get these replies, in this order.
 pub fn rows_stand()
     ensures { λ _. ⌜ RowsStand ⌝ }
-{
-}
+{}
