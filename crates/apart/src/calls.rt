@@ -5,8 +5,9 @@ ghost use lib.ListN.{length, getD};
 ghost use Rattle.chain.specs.Entry.{nowhere};
 ghost use Rattle.chain.specs.Blocks.{linkOf};
 ghost use Rattle.chain.specs.View.{blocksOf};
-ghost use Rattle.ledger.specs.Answers.{answerOf, bufferOf, nextOf};
+ghost use Rattle.ledger.specs.Answers.{answerOf, bufferOf, nextOf, changeOf};
 ghost use Rattle.memory.specs.View.{Spared};
+ghost use Rattle.memory.specs.Table.{changed};
 ghost use Rattle.engine.specs.View.{ledgerOf};
 ghost use Rattle.apart.specs.Testing.{test as judged, write as wrote};
 ghost use Rattle.apart.specs.Verdicts.{toldOf, testedOf, bufferAfter, passedOf};
@@ -56,6 +57,7 @@ fn answer<M: Make>(
     ensures answer { λ r. ⌜ r ≡ answerOf (now (out .entry)) (wrote (M·Make .spec) (ledgerOf (M·Make .kindof) (M·Make .systemtype) (M·Make .texts) (now (session .entry)) (now (memory .entry) .pool)) (passedOf (tested .entry)) .said) ⌝ }
     ensures buffer { λ _. ⌜ now (out .exit) ≡ bufferOf (now (out .entry)) (wrote (M·Make .spec) (ledgerOf (M·Make .kindof) (M·Make .systemtype) (M·Make .texts) (now (session .entry)) (now (memory .entry) .pool)) (passedOf (tested .entry)) .said) ⌝ }
     ensures ledger { λ _. ⌜ ledgerOf (M·Make .kindof) (M·Make .systemtype) (M·Make .texts) (now (session .exit)) (now (memory .exit) .pool) ≡ nextOf (now (out .entry)) (ledgerOf (M·Make .kindof) (M·Make .systemtype) (M·Make .texts) (now (session .entry)) (now (memory .entry) .pool)) (wrote (M·Make .spec) (ledgerOf (M·Make .kindof) (M·Make .systemtype) (M·Make .texts) (now (session .entry)) (now (memory .entry) .pool)) (passedOf (tested .entry)) .next) ⌝ }
+    ensures records { λ _. ⌜ now (now (memory .exit) .pool .elements) ≡ changed (M·Make .made) (M·Make .written) (now (memory .entry) .pool .chains .count) (changeOf (now (out .entry)) (wrote (M·Make .spec) (ledgerOf (M·Make .kindof) (M·Make .systemtype) (M·Make .texts) (now (session .entry)) (now (memory .entry) .pool)) (passedOf (tested .entry)) .change)) (now (now (memory .entry) .pool .elements)) ⌝ }
     ensures spared { λ _. ⌜ Spared (now (memory .entry) .pool) (now (memory .exit) .pool) ⌝ }
 {
     if out.len() < LEAST_BUFFER {
@@ -75,6 +77,7 @@ pub fn write<M: Make>(
     ensures buffer { λ _. ⌜ now (out .exit) ≡ bufferOf (now (out .entry)) (wrote (M·Make .spec) (ledgerOf (M·Make .kindof) (M·Make .systemtype) (M·Make .texts) (now (session .entry)) (now (memory .entry) .pool)) (passedOf (tested .entry)) .said) ⌝ }
     ensures ledger { λ _. ⌜ ledgerOf (M·Make .kindof) (M·Make .systemtype) (M·Make .texts) (now (session .exit)) (now (memory .exit) .pool) ≡ nextOf (now (out .entry)) (ledgerOf (M·Make .kindof) (M·Make .systemtype) (M·Make .texts) (now (session .entry)) (now (memory .entry) .pool)) (wrote (M·Make .spec) (ledgerOf (M·Make .kindof) (M·Make .systemtype) (M·Make .texts) (now (session .entry)) (now (memory .entry) .pool)) (passedOf (tested .entry)) .next) ⌝ }
     ensures links { λ _. ⌜ ((i : ℕ) → 1 ≤ i → i ≤ now (memory .exit) .pool .chains .count → getD (now (now (memory .exit) .pool .chains .links)) (i - 1) nowhere ≡ linkOf (blocksOf (now (memory .exit) .pool .chains)) i) ⌝ }
+    ensures records { λ _. ⌜ now (now (memory .exit) .pool .elements) ≡ changed (M·Make .made) (M·Make .written) (now (memory .entry) .pool .chains .count) (changeOf (now (out .entry)) (wrote (M·Make .spec) (ledgerOf (M·Make .kindof) (M·Make .systemtype) (M·Make .texts) (now (session .entry)) (now (memory .entry) .pool)) (passedOf (tested .entry)) .change)) (now (now (memory .entry) .pool .elements)) ⌝ }
     ensures spared { λ _. ⌜ Spared (now (memory .entry) .pool) (now (memory .exit) .pool) ⌝ }
 {
     answer(memory, session, tested, out)

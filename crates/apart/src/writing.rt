@@ -60,7 +60,7 @@ fn put_into<M: Make>(
 ) -> usize
     requires room { ⌜ 600 ≤ length (now out) ⌝ }
     requires count { ⌜ parts .count ≡ length (fieldsLeft (parts .fields)) ⌝ }
-    ensures { λ r. ⌜ Gives (M·Make .kindof) (M·Make .systemtype) (M·Make .texts) (now (memory .entry) .pool) (now (memory .exit) .pool) (now (out .entry)) (now (out .exit)) r (putInto (M·Make .spec) (storeOf (M·Make .kindof) (M·Make .systemtype) (M·Make .texts) (now (memory .entry) .pool)) (parts .entry .command) (x .number) kind (fieldsLeft (parts .entry .fields))) ⌝ }
+    ensures { λ r. ⌜ Gives (M·Make .kindof) (M·Make .systemtype) (M·Make .texts) (M·Make .made) (M·Make .written) (now (memory .entry) .pool) (now (memory .exit) .pool) (now (out .entry)) (now (out .exit)) r (putInto (M·Make .spec) (storeOf (M·Make .kindof) (M·Make .systemtype) (M·Make .texts) (now (memory .entry) .pool)) (parts .entry .command) (x .number) kind (fieldsLeft (parts .entry .fields))) ⌝ }
 {
     let count = parts.count;
     if !holds(memory, x, kind) {
@@ -77,7 +77,7 @@ fn put_into<M: Make>(
 // Writes the fields of a tested line.
 fn put_line<M: Make>(memory: &mut Memory<'_, M>, tested: TestedLine<'_>, out: &mut [u8]) -> usize
     requires room { ⌜ 600 ≤ length (now out) ⌝ }
-    ensures { λ r. ⌜ Gives (M·Make .kindof) (M·Make .systemtype) (M·Make .texts) (now (memory .entry) .pool) (now (memory .exit) .pool) (now (out .entry)) (now (out .exit)) r (puts (M·Make .spec) (storeOf (M·Make .kindof) (M·Make .systemtype) (M·Make .texts) (now (memory .entry) .pool)) (passedOf (tested .entry))) ⌝ }
+    ensures { λ r. ⌜ Gives (M·Make .kindof) (M·Make .systemtype) (M·Make .texts) (M·Make .made) (M·Make .written) (now (memory .entry) .pool) (now (memory .exit) .pool) (now (out .entry)) (now (out .exit)) r (puts (M·Make .spec) (storeOf (M·Make .kindof) (M·Make .systemtype) (M·Make .texts) (now (memory .entry) .pool)) (passedOf (tested .entry))) ⌝ }
 {
     if tested.line.len() > LONGEST_LINE {
         return say_err(out);
@@ -96,7 +96,7 @@ pub(crate) fn spend<M: Make>(
     out: &mut [u8],
 ) -> usize
     requires room { ⌜ 600 ≤ length (now out) ⌝ }
-    ensures { λ r. ⌜ Gives (M·Make .kindof) (M·Make .systemtype) (M·Make .texts) (now (memory .entry) .pool) (now (memory .exit) .pool) (now (out .entry)) (now (out .exit)) r (spent (M·Make .spec) mode (storeOf (M·Make .kindof) (M·Make .systemtype) (M·Make .texts) (now (memory .entry) .pool)) (passedOf (tested .entry))) ⌝ }
+    ensures { λ r. ⌜ Gives (M·Make .kindof) (M·Make .systemtype) (M·Make .texts) (M·Make .made) (M·Make .written) (now (memory .entry) .pool) (now (memory .exit) .pool) (now (out .entry)) (now (out .exit)) r (spent (M·Make .spec) mode (storeOf (M·Make .kindof) (M·Make .systemtype) (M·Make .texts) (now (memory .entry) .pool)) (passedOf (tested .entry))) ⌝ }
 {
     match mode {
         Mode::Off => say_ng(out),

@@ -39,7 +39,7 @@ fn create<M: Make>(
 ) -> usize
     requires room { ⌜ 600 ≤ length (now out) ⌝ }
     requires living { ⌜ Living ((storeOf (M·Make .kindof) (M·Make .systemtype) (M·Make .texts) (now memory .pool)) .blocks) chain ⌝ }
-    ensures { λ r. ⌜ Gives (M·Make .kindof) (M·Make .systemtype) (M·Make .texts) (now (memory .entry) .pool) (now (memory .exit) .pool) (now (out .entry)) (now (out .exit)) r (creates (M·Make .spec) (storeOf (M·Make .kindof) (M·Make .systemtype) (M·Make .texts) (now (memory .entry) .pool)) command (number chain) kind «system_type») ⌝ }
+    ensures { λ r. ⌜ Gives (M·Make .kindof) (M·Make .systemtype) (M·Make .texts) (M·Make .made) (M·Make .written) (now (memory .entry) .pool) (now (memory .exit) .pool) (now (out .entry)) (now (out .exit)) r (creates (M·Make .spec) (storeOf (M·Make .kindof) (M·Make .systemtype) (M·Make .texts) (now (memory .entry) .pool)) command (number chain) kind «system_type») ⌝ }
 {
     let created = memory.create(chain, kind, system_type);
     say_index(out, command, created)
@@ -52,7 +52,7 @@ pub(crate) fn create_system<M: Make>(
     out: &mut [u8],
 ) -> usize
     requires room { ⌜ 600 ≤ length (now out) ⌝ }
-    ensures { λ r. ⌜ Gives (M·Make .kindof) (M·Make .systemtype) (M·Make .texts) (now (memory .entry) .pool) (now (memory .exit) .pool) (now (out .entry)) (now (out .exit)) r (newSystem (M·Make .spec) (storeOf (M·Make .kindof) (M·Make .systemtype) (M·Make .texts) (now (memory .entry) .pool)) (typeNamed (M·Make .spec .types) (now (text .entry)))) ⌝ }
+    ensures { λ r. ⌜ Gives (M·Make .kindof) (M·Make .systemtype) (M·Make .texts) (M·Make .made) (M·Make .written) (now (memory .entry) .pool) (now (memory .exit) .pool) (now (out .entry)) (now (out .exit)) r (newSystem (M·Make .spec) (storeOf (M·Make .kindof) (M·Make .systemtype) (M·Make .texts) (now (memory .entry) .pool)) (typeNamed (M·Make .spec .types) (now (text .entry)))) ⌝ }
 {
     match type_named::<M>(text) {
         Some(system_type) => {
@@ -83,7 +83,7 @@ pub(crate) fn create_under_system<M: Make>(
     out: &mut [u8],
 ) -> usize
     requires room { ⌜ 600 ≤ length (now out) ⌝ }
-    ensures { λ r. ⌜ Gives (M·Make .kindof) (M·Make .systemtype) (M·Make .texts) (now (memory .entry) .pool) (now (memory .exit) .pool) (now (out .entry)) (now (out .exit)) r (at (storeOf (M·Make .kindof) (M·Make .systemtype) (M·Make .texts) (now (memory .entry) .pool)) (target (storeOf (M·Make .kindof) (M·Make .systemtype) (M·Make .texts) (now (memory .entry) .pool)) command (now (text .entry))) (λ i. creates (M·Make .spec) (storeOf (M·Make .kindof) (M·Make .systemtype) (M·Make .texts) (now (memory .entry) .pool)) command (chainUnder branch i) kind 0)) ⌝ }
+    ensures { λ r. ⌜ Gives (M·Make .kindof) (M·Make .systemtype) (M·Make .texts) (M·Make .made) (M·Make .written) (now (memory .entry) .pool) (now (memory .exit) .pool) (now (out .entry)) (now (out .exit)) r (at (storeOf (M·Make .kindof) (M·Make .systemtype) (M·Make .texts) (now (memory .entry) .pool)) (target (storeOf (M·Make .kindof) (M·Make .systemtype) (M·Make .texts) (now (memory .entry) .pool)) command (now (text .entry))) (λ i. creates (M·Make .spec) (storeOf (M·Make .kindof) (M·Make .systemtype) (M·Make .texts) (now (memory .entry) .pool)) command (chainUnder branch i) kind 0)) ⌝ }
 {
     match find_target(memory, command, text) {
         Some(owner) => create(
@@ -106,7 +106,7 @@ pub(crate) fn create_below<M: Make>(
     out: &mut [u8],
 ) -> usize
     requires room { ⌜ 600 ≤ length (now out) ⌝ }
-    ensures { λ r. ⌜ Gives (M·Make .kindof) (M·Make .systemtype) (M·Make .texts) (now (memory .entry) .pool) (now (memory .exit) .pool) (now (out .entry)) (now (out .exit)) r (at (storeOf (M·Make .kindof) (M·Make .systemtype) (M·Make .texts) (now (memory .entry) .pool)) (target (storeOf (M·Make .kindof) (M·Make .systemtype) (M·Make .texts) (now (memory .entry) .pool)) command (now (text .entry))) (λ i. creates (M·Make .spec) (storeOf (M·Make .kindof) (M·Make .systemtype) (M·Make .texts) (now (memory .entry) .pool)) command (chainUnder First i) (memberKind (holding (storeOf (M·Make .kindof) (M·Make .systemtype) (M·Make .texts) (now (memory .entry) .pool)) i .kind)) 0)) ⌝ }
+    ensures { λ r. ⌜ Gives (M·Make .kindof) (M·Make .systemtype) (M·Make .texts) (M·Make .made) (M·Make .written) (now (memory .entry) .pool) (now (memory .exit) .pool) (now (out .entry)) (now (out .exit)) r (at (storeOf (M·Make .kindof) (M·Make .systemtype) (M·Make .texts) (now (memory .entry) .pool)) (target (storeOf (M·Make .kindof) (M·Make .systemtype) (M·Make .texts) (now (memory .entry) .pool)) command (now (text .entry))) (λ i. creates (M·Make .spec) (storeOf (M·Make .kindof) (M·Make .systemtype) (M·Make .texts) (now (memory .entry) .pool)) command (chainUnder First i) (memberKind (holding (storeOf (M·Make .kindof) (M·Make .systemtype) (M·Make .texts) (now (memory .entry) .pool)) i .kind)) 0)) ⌝ }
 {
     match find_target(memory, command, text) {
         Some(owner) => {

@@ -20,7 +20,7 @@ pub(crate) fn delete<M: Make>(
     out: &mut [u8],
 ) -> usize
     requires room { ⌜ 600 ≤ length (now out) ⌝ }
-    ensures { λ r. ⌜ Gives (M·Make .kindof) (M·Make .systemtype) (M·Make .texts) (now (memory .entry) .pool) (now (memory .exit) .pool) (now (out .entry)) (now (out .exit)) r (at (storeOf (M·Make .kindof) (M·Make .systemtype) (M·Make .texts) (now (memory .entry) .pool)) (target (storeOf (M·Make .kindof) (M·Make .systemtype) (M·Make .texts) (now (memory .entry) .pool)) command (now (text .entry))) (deletes (storeOf (M·Make .kindof) (M·Make .systemtype) (M·Make .texts) (now (memory .entry) .pool)) command)) ⌝ }
+    ensures { λ r. ⌜ Gives (M·Make .kindof) (M·Make .systemtype) (M·Make .texts) (M·Make .made) (M·Make .written) (now (memory .entry) .pool) (now (memory .exit) .pool) (now (out .entry)) (now (out .exit)) r (at (storeOf (M·Make .kindof) (M·Make .systemtype) (M·Make .texts) (now (memory .entry) .pool)) (target (storeOf (M·Make .kindof) (M·Make .systemtype) (M·Make .texts) (now (memory .entry) .pool)) command (now (text .entry))) (deletes (storeOf (M·Make .kindof) (M·Make .systemtype) (M·Make .texts) (now (memory .entry) .pool)) command)) ⌝ }
 {
     match find_target(memory, command, text) {
         Some(x) => {

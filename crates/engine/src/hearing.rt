@@ -56,7 +56,7 @@ fn run<M: Make>(
 ) -> usize
     requires room { ⌜ 600 ≤ length (now out) ⌝ }
     requires count { ⌜ parts .count ≡ length (fieldsLeft (parts .fields)) ⌝ }
-    ensures { λ r. ⌜ Hears (now (memory .entry) .pool) (now (memory .exit) .pool) (now (out .entry)) (now (out .exit)) r (ledgerOf (M·Make .kindof) (M·Make .systemtype) (M·Make .texts) (now (session .exit)) (now (memory .exit) .pool)) (known (M·Make .spec) (ledgerOf (M·Make .kindof) (M·Make .systemtype) (M·Make .texts) (now (session .entry)) (now (memory .entry) .pool)) (Some (parts .entry .command)) (fieldsLeft (parts .entry .fields))) ⌝ }
+    ensures { λ r. ⌜ Hears (M·Make .made) (M·Make .written) (now (memory .entry) .pool) (now (memory .exit) .pool) (now (out .entry)) (now (out .exit)) r (ledgerOf (M·Make .kindof) (M·Make .systemtype) (M·Make .texts) (now (session .exit)) (now (memory .exit) .pool)) (known (M·Make .spec) (ledgerOf (M·Make .kindof) (M·Make .systemtype) (M·Make .texts) (now (session .entry)) (now (memory .entry) .pool)) (Some (parts .entry .command)) (fieldsLeft (parts .entry .fields))) ⌝ }
 {
     let command = parts.command;
     let count = parts.count;
@@ -82,7 +82,7 @@ pub(crate) fn hear<M: Make>(
     out: &mut [u8],
 ) -> usize
     requires room { ⌜ 600 ≤ length (now out) ⌝ }
-    ensures { λ r. ⌜ Hears (now (memory .entry) .pool) (now (memory .exit) .pool) (now (out .entry)) (now (out .exit)) r (ledgerOf (M·Make .kindof) (M·Make .systemtype) (M·Make .texts) (now (session .exit)) (now (memory .exit) .pool)) (step (M·Make .spec) (ledgerOf (M·Make .kindof) (M·Make .systemtype) (M·Make .texts) (now (session .entry)) (now (memory .entry) .pool)) (now (line .entry))) ⌝ }
+    ensures { λ r. ⌜ Hears (M·Make .made) (M·Make .written) (now (memory .entry) .pool) (now (memory .exit) .pool) (now (out .entry)) (now (out .exit)) r (ledgerOf (M·Make .kindof) (M·Make .systemtype) (M·Make .texts) (now (session .exit)) (now (memory .exit) .pool)) (step (M·Make .spec) (ledgerOf (M·Make .kindof) (M·Make .systemtype) (M·Make .texts) (now (session .entry)) (now (memory .entry) .pool)) (now (line .entry))) ⌝ }
 {
     if line.len() > LONGEST_LINE {
         return say_orer(out);

@@ -29,7 +29,7 @@ pub(crate) fn tell_systems<M: Make>(
     out: &mut [u8],
 ) -> usize
     requires room { ⌜ 600 ≤ length (now out) ⌝ }
-    ensures { λ r. ⌜ Gives (M·Make .kindof) (M·Make .systemtype) (M·Make .texts) (now (memory .entry) .pool) (now (memory .exit) .pool) (now (out .entry)) (now (out .exit)) r (says (storeOf (M·Make .kindof) (M·Make .systemtype) (M·Make .texts) (now (memory .entry) .pool)) command (decimal (length (systems (storeOf (M·Make .kindof) (M·Make .systemtype) (M·Make .texts) (now (memory .entry) .pool)))) ∷ [])) ⌝ }
+    ensures { λ r. ⌜ Gives (M·Make .kindof) (M·Make .systemtype) (M·Make .texts) (M·Make .made) (M·Make .written) (now (memory .entry) .pool) (now (memory .exit) .pool) (now (out .entry)) (now (out .exit)) r (says (storeOf (M·Make .kindof) (M·Make .systemtype) (M·Make .texts) (now (memory .entry) .pool)) command (decimal (length (systems (storeOf (M·Make .kindof) (M·Make .systemtype) (M·Make .texts) (now (memory .entry) .pool)))) ∷ [])) ⌝ }
 {
     let count = memory.system_count();
     say_number(out, command, count)
@@ -42,7 +42,7 @@ pub(crate) fn tell_spare<M: Make>(
     out: &mut [u8],
 ) -> usize
     requires room { ⌜ 600 ≤ length (now out) ⌝ }
-    ensures { λ r. ⌜ Gives (M·Make .kindof) (M·Make .systemtype) (M·Make .texts) (now (memory .entry) .pool) (now (memory .exit) .pool) (now (out .entry)) (now (out .exit)) r (says (storeOf (M·Make .kindof) (M·Make .systemtype) (M·Make .texts) (now (memory .entry) .pool)) command (decimal (length ((storeOf (M·Make .kindof) (M·Make .systemtype) (M·Make .texts) (now (memory .entry) .pool)) .blocks .free)) ∷ [])) ⌝ }
+    ensures { λ r. ⌜ Gives (M·Make .kindof) (M·Make .systemtype) (M·Make .texts) (M·Make .made) (M·Make .written) (now (memory .entry) .pool) (now (memory .exit) .pool) (now (out .entry)) (now (out .exit)) r (says (storeOf (M·Make .kindof) (M·Make .systemtype) (M·Make .texts) (now (memory .entry) .pool)) command (decimal (length ((storeOf (M·Make .kindof) (M·Make .systemtype) (M·Make .texts) (now (memory .entry) .pool)) .blocks .free)) ∷ [])) ⌝ }
 {
     let spare = memory.spare();
     say_number(out, command, spare)
@@ -55,7 +55,7 @@ pub(crate) fn tell_first<M: Make>(
     out: &mut [u8],
 ) -> usize
     requires room { ⌜ 600 ≤ length (now out) ⌝ }
-    ensures { λ r. ⌜ Gives (M·Make .kindof) (M·Make .systemtype) (M·Make .texts) (now (memory .entry) .pool) (now (memory .exit) .pool) (now (out .entry)) (now (out .exit)) r (says (storeOf (M·Make .kindof) (M·Make .systemtype) (M·Make .texts) (now (memory .entry) .pool)) command (shown (headOr 0 (systems (storeOf (M·Make .kindof) (M·Make .systemtype) (M·Make .texts) (now (memory .entry) .pool)))) ∷ [])) ⌝ }
+    ensures { λ r. ⌜ Gives (M·Make .kindof) (M·Make .systemtype) (M·Make .texts) (M·Make .made) (M·Make .written) (now (memory .entry) .pool) (now (memory .exit) .pool) (now (out .entry)) (now (out .exit)) r (says (storeOf (M·Make .kindof) (M·Make .systemtype) (M·Make .texts) (now (memory .entry) .pool)) command (shown (headOr 0 (systems (storeOf (M·Make .kindof) (M·Make .systemtype) (M·Make .texts) (now (memory .entry) .pool)))) ∷ [])) ⌝ }
 {
     let head = memory.head(Chain::Root);
     say_index(out, command, head)
@@ -68,7 +68,7 @@ pub(crate) fn tell_last<M: Make>(
     out: &mut [u8],
 ) -> usize
     requires room { ⌜ 600 ≤ length (now out) ⌝ }
-    ensures { λ r. ⌜ Gives (M·Make .kindof) (M·Make .systemtype) (M·Make .texts) (now (memory .entry) .pool) (now (memory .exit) .pool) (now (out .entry)) (now (out .exit)) r (says (storeOf (M·Make .kindof) (M·Make .systemtype) (M·Make .texts) (now (memory .entry) .pool)) command (shown (lastOr 0 (systems (storeOf (M·Make .kindof) (M·Make .systemtype) (M·Make .texts) (now (memory .entry) .pool)))) ∷ [])) ⌝ }
+    ensures { λ r. ⌜ Gives (M·Make .kindof) (M·Make .systemtype) (M·Make .texts) (M·Make .made) (M·Make .written) (now (memory .entry) .pool) (now (memory .exit) .pool) (now (out .entry)) (now (out .exit)) r (says (storeOf (M·Make .kindof) (M·Make .systemtype) (M·Make .texts) (now (memory .entry) .pool)) command (shown (lastOr 0 (systems (storeOf (M·Make .kindof) (M·Make .systemtype) (M·Make .texts) (now (memory .entry) .pool)))) ∷ [])) ⌝ }
 {
     let tail = memory.tail(Chain::Root);
     say_index(out, command, tail)
@@ -82,7 +82,7 @@ pub(crate) fn tell_next<M: Make>(
     out: &mut [u8],
 ) -> usize
     requires room { ⌜ 600 ≤ length (now out) ⌝ }
-    ensures { λ r. ⌜ Gives (M·Make .kindof) (M·Make .systemtype) (M·Make .texts) (now (memory .entry) .pool) (now (memory .exit) .pool) (now (out .entry)) (now (out .exit)) r (at (storeOf (M·Make .kindof) (M·Make .systemtype) (M·Make .texts) (now (memory .entry) .pool)) (target (storeOf (M·Make .kindof) (M·Make .systemtype) (M·Make .texts) (now (memory .entry) .pool)) command (now (text .entry))) (λ i. says (storeOf (M·Make .kindof) (M·Make .systemtype) (M·Make .texts) (now (memory .entry) .pool)) command (shown (nextIn ((storeOf (M·Make .kindof) (M·Make .systemtype) (M·Make .texts) (now (memory .entry) .pool)) .blocks) i) ∷ []))) ⌝ }
+    ensures { λ r. ⌜ Gives (M·Make .kindof) (M·Make .systemtype) (M·Make .texts) (M·Make .made) (M·Make .written) (now (memory .entry) .pool) (now (memory .exit) .pool) (now (out .entry)) (now (out .exit)) r (at (storeOf (M·Make .kindof) (M·Make .systemtype) (M·Make .texts) (now (memory .entry) .pool)) (target (storeOf (M·Make .kindof) (M·Make .systemtype) (M·Make .texts) (now (memory .entry) .pool)) command (now (text .entry))) (λ i. says (storeOf (M·Make .kindof) (M·Make .systemtype) (M·Make .texts) (now (memory .entry) .pool)) command (shown (nextIn ((storeOf (M·Make .kindof) (M·Make .systemtype) (M·Make .texts) (now (memory .entry) .pool)) .blocks) i) ∷ []))) ⌝ }
 {
     match find_target(memory, command, text) {
         Some(x) => {
@@ -101,7 +101,7 @@ pub(crate) fn tell_previous<M: Make>(
     out: &mut [u8],
 ) -> usize
     requires room { ⌜ 600 ≤ length (now out) ⌝ }
-    ensures { λ r. ⌜ Gives (M·Make .kindof) (M·Make .systemtype) (M·Make .texts) (now (memory .entry) .pool) (now (memory .exit) .pool) (now (out .entry)) (now (out .exit)) r (at (storeOf (M·Make .kindof) (M·Make .systemtype) (M·Make .texts) (now (memory .entry) .pool)) (target (storeOf (M·Make .kindof) (M·Make .systemtype) (M·Make .texts) (now (memory .entry) .pool)) command (now (text .entry))) (λ i. says (storeOf (M·Make .kindof) (M·Make .systemtype) (M·Make .texts) (now (memory .entry) .pool)) command (shown (prevIn ((storeOf (M·Make .kindof) (M·Make .systemtype) (M·Make .texts) (now (memory .entry) .pool)) .blocks) i) ∷ []))) ⌝ }
+    ensures { λ r. ⌜ Gives (M·Make .kindof) (M·Make .systemtype) (M·Make .texts) (M·Make .made) (M·Make .written) (now (memory .entry) .pool) (now (memory .exit) .pool) (now (out .entry)) (now (out .exit)) r (at (storeOf (M·Make .kindof) (M·Make .systemtype) (M·Make .texts) (now (memory .entry) .pool)) (target (storeOf (M·Make .kindof) (M·Make .systemtype) (M·Make .texts) (now (memory .entry) .pool)) command (now (text .entry))) (λ i. says (storeOf (M·Make .kindof) (M·Make .systemtype) (M·Make .texts) (now (memory .entry) .pool)) command (shown (prevIn ((storeOf (M·Make .kindof) (M·Make .systemtype) (M·Make .texts) (now (memory .entry) .pool)) .blocks) i) ∷ []))) ⌝ }
 {
     match find_target(memory, command, text) {
         Some(x) => {
@@ -120,7 +120,7 @@ pub(crate) fn tell_talkgroups<M: Make>(
     out: &mut [u8],
 ) -> usize
     requires room { ⌜ 600 ≤ length (now out) ⌝ }
-    ensures { λ r. ⌜ Gives (M·Make .kindof) (M·Make .systemtype) (M·Make .texts) (now (memory .entry) .pool) (now (memory .exit) .pool) (now (out .entry)) (now (out .exit)) r (at (storeOf (M·Make .kindof) (M·Make .systemtype) (M·Make .texts) (now (memory .entry) .pool)) (target (storeOf (M·Make .kindof) (M·Make .systemtype) (M·Make .texts) (now (memory .entry) .pool)) command (now (text .entry))) (λ i. says (storeOf (M·Make .kindof) (M·Make .systemtype) (M·Make .texts) (now (memory .entry) .pool)) command (ends (talkgroups (storeOf (M·Make .kindof) (M·Make .systemtype) (M·Make .texts) (now (memory .entry) .pool)) i)))) ⌝ }
+    ensures { λ r. ⌜ Gives (M·Make .kindof) (M·Make .systemtype) (M·Make .texts) (M·Make .made) (M·Make .written) (now (memory .entry) .pool) (now (memory .exit) .pool) (now (out .entry)) (now (out .exit)) r (at (storeOf (M·Make .kindof) (M·Make .systemtype) (M·Make .texts) (now (memory .entry) .pool)) (target (storeOf (M·Make .kindof) (M·Make .systemtype) (M·Make .texts) (now (memory .entry) .pool)) command (now (text .entry))) (λ i. says (storeOf (M·Make .kindof) (M·Make .systemtype) (M·Make .texts) (now (memory .entry) .pool)) command (ends (talkgroups (storeOf (M·Make .kindof) (M·Make .systemtype) (M·Make .texts) (now (memory .entry) .pool)) i)))) ⌝ }
 {
     match find_target(memory, command, text) {
         Some(owner) => {

@@ -95,7 +95,7 @@ pub(crate) fn tell_record<M: Make>(
 ) -> usize
     requires room { ⌜ 600 ≤ length (now out) ⌝ }
     requires living { ⌜ living (storeOf (M·Make .kindof) (M·Make .systemtype) (M·Make .texts) (now memory .pool)) (x .number) ≡ true ⌝ }
-    ensures { λ r. ⌜ Gives (M·Make .kindof) (M·Make .systemtype) (M·Make .texts) (now (memory .entry) .pool) (now (memory .exit) .pool) (now (out .entry)) (now (out .exit)) r (says (storeOf (M·Make .kindof) (M·Make .systemtype) (M·Make .texts) (now (memory .entry) .pool)) command (shownRecord (M·Make .spec) (storeOf (M·Make .kindof) (M·Make .systemtype) (M·Make .texts) (now (memory .entry) .pool)) (x .number) (holding (storeOf (M·Make .kindof) (M·Make .systemtype) (M·Make .texts) (now (memory .entry) .pool)) (x .number)))) ⌝ }
+    ensures { λ r. ⌜ Gives (M·Make .kindof) (M·Make .systemtype) (M·Make .texts) (M·Make .made) (M·Make .written) (now (memory .entry) .pool) (now (memory .exit) .pool) (now (out .entry)) (now (out .exit)) r (says (storeOf (M·Make .kindof) (M·Make .systemtype) (M·Make .texts) (now (memory .entry) .pool)) command (shownRecord (M·Make .spec) (storeOf (M·Make .kindof) (M·Make .systemtype) (M·Make .texts) (now (memory .entry) .pool)) (x .number) (holding (storeOf (M·Make .kindof) (M·Make .systemtype) (M·Make .texts) (now (memory .entry) .pool)) (x .number)))) ⌝ }
 {
     let record = memory.read(x);
     let links = links_of(memory, x, M::kind(&record));

@@ -39,7 +39,7 @@ use text::field::Fields;
 // CLR: every block is free again.
 fn clear<M: Make>(memory: &mut Memory<'_, M>, out: &mut [u8]) -> usize
     requires room { ⌜ 600 ≤ length (now out) ⌝ }
-    ensures { λ r. ⌜ Gives (M·Make .kindof) (M·Make .systemtype) (M·Make .texts) (now (memory .entry) .pool) (now (memory .exit) .pool) (now (out .entry)) (now (out .exit)) r (done (M·Make .spec) (storeOf (M·Make .kindof) (M·Make .systemtype) (M·Make .texts) (now (memory .entry) .pool)) Clr []) ⌝ }
+    ensures { λ r. ⌜ Gives (M·Make .kindof) (M·Make .systemtype) (M·Make .texts) (M·Make .made) (M·Make .written) (now (memory .entry) .pool) (now (memory .exit) .pool) (now (out .entry)) (now (out .exit)) r (done (M·Make .spec) (storeOf (M·Make .kindof) (M·Make .systemtype) (M·Make .texts) (now (memory .entry) .pool)) Clr []) ⌝ }
 {
     memory.clear();
     say_ok(out, Command::Clr)
@@ -55,7 +55,7 @@ fn read_or_set<M: Make>(
 ) -> usize
     requires room { ⌜ 600 ≤ length (now out) ⌝ }
     requires count { ⌜ count ≡ length (fieldsLeft fields) ⌝ }
-    ensures { λ r. ⌜ Gives (M·Make .kindof) (M·Make .systemtype) (M·Make .texts) (now (memory .entry) .pool) (now (memory .exit) .pool) (now (out .entry)) (now (out .exit)) r (readOrSet (M·Make .spec) (storeOf (M·Make .kindof) (M·Make .systemtype) (M·Make .texts) (now (memory .entry) .pool)) command (fieldsLeft (fields .entry))) ⌝ }
+    ensures { λ r. ⌜ Gives (M·Make .kindof) (M·Make .systemtype) (M·Make .texts) (M·Make .made) (M·Make .written) (now (memory .entry) .pool) (now (memory .exit) .pool) (now (out .entry)) (now (out .exit)) r (readOrSet (M·Make .spec) (storeOf (M·Make .kindof) (M·Make .systemtype) (M·Make .texts) (now (memory .entry) .pool)) command (fieldsLeft (fields .entry))) ⌝ }
 {
     let mut rest = fields;
     let text = next_bytes(&mut rest);
@@ -80,7 +80,7 @@ fn with_one<M: Make>(
 ) -> usize
     requires room { ⌜ 600 ≤ length (now out) ⌝ }
     requires one { ⌜ takesOf command ≡ One ⌝ }
-    ensures { λ r. ⌜ Gives (M·Make .kindof) (M·Make .systemtype) (M·Make .texts) (now (memory .entry) .pool) (now (memory .exit) .pool) (now (out .entry)) (now (out .exit)) r (done (M·Make .spec) (storeOf (M·Make .kindof) (M·Make .systemtype) (M·Make .texts) (now (memory .entry) .pool)) command (fieldsLeft (fields .entry))) ⌝ }
+    ensures { λ r. ⌜ Gives (M·Make .kindof) (M·Make .systemtype) (M·Make .texts) (M·Make .made) (M·Make .written) (now (memory .entry) .pool) (now (memory .exit) .pool) (now (out .entry)) (now (out .exit)) r (done (M·Make .spec) (storeOf (M·Make .kindof) (M·Make .systemtype) (M·Make .texts) (now (memory .entry) .pool)) command (fieldsLeft (fields .entry))) ⌝ }
 {
     let mut rest = fields;
     let text = next_bytes(&mut rest);
@@ -124,7 +124,7 @@ fn with_none<M: Make>(
 ) -> usize
     requires room { ⌜ 600 ≤ length (now out) ⌝ }
     requires none { ⌜ takesOf command ≡ Nothing ⌝ }
-    ensures { λ r. ⌜ Gives (M·Make .kindof) (M·Make .systemtype) (M·Make .texts) (now (memory .entry) .pool) (now (memory .exit) .pool) (now (out .entry)) (now (out .exit)) r (done (M·Make .spec) (storeOf (M·Make .kindof) (M·Make .systemtype) (M·Make .texts) (now (memory .entry) .pool)) command (fieldsLeft (fields .entry))) ⌝ }
+    ensures { λ r. ⌜ Gives (M·Make .kindof) (M·Make .systemtype) (M·Make .texts) (M·Make .made) (M·Make .written) (now (memory .entry) .pool) (now (memory .exit) .pool) (now (out .entry)) (now (out .exit)) r (done (M·Make .spec) (storeOf (M·Make .kindof) (M·Make .systemtype) (M·Make .texts) (now (memory .entry) .pool)) command (fieldsLeft (fields .entry))) ⌝ }
 {
     match command {
         Command::Clr => clear(memory, out),
@@ -146,7 +146,7 @@ pub(crate) fn carry_out<M: Make>(
 ) -> usize
     requires room { ⌜ 600 ≤ length (now out) ⌝ }
     requires count { ⌜ count ≡ length (fieldsLeft fields) ⌝ }
-    ensures { λ r. ⌜ Gives (M·Make .kindof) (M·Make .systemtype) (M·Make .texts) (now (memory .entry) .pool) (now (memory .exit) .pool) (now (out .entry)) (now (out .exit)) r (done (M·Make .spec) (storeOf (M·Make .kindof) (M·Make .systemtype) (M·Make .texts) (now (memory .entry) .pool)) command (fieldsLeft (fields .entry))) ⌝ }
+    ensures { λ r. ⌜ Gives (M·Make .kindof) (M·Make .systemtype) (M·Make .texts) (M·Make .made) (M·Make .written) (now (memory .entry) .pool) (now (memory .exit) .pool) (now (out .entry)) (now (out .exit)) r (done (M·Make .spec) (storeOf (M·Make .kindof) (M·Make .systemtype) (M·Make .texts) (now (memory .entry) .pool)) command (fieldsLeft (fields .entry))) ⌝ }
 {
     match takes(command) {
         Takes::Switch => say_ok(out, command),

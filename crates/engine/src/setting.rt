@@ -29,7 +29,7 @@ pub fn set<M: Make>(
     requires room { ⌜ 600 ≤ length (now out) ⌝ }
     requires living { ⌜ living (storeOf (M·Make .kindof) (M·Make .systemtype) (M·Make .texts) (now memory .pool)) (x .number) ≡ true ⌝ }
     requires few { ⌜ length (fieldsLeft fields) ≤ count ⌝ }
-    ensures { λ r. ⌜ Gives (M·Make .kindof) (M·Make .systemtype) (M·Make .texts) (now (memory .entry) .pool) (now (memory .exit) .pool) (now (out .entry)) (now (out .exit)) r (sets (M·Make .spec) (storeOf (M·Make .kindof) (M·Make .systemtype) (M·Make .texts) (now (memory .entry) .pool)) command (x .number) (holding (storeOf (M·Make .kindof) (M·Make .systemtype) (M·Make .texts) (now (memory .entry) .pool)) (x .number)) (fieldsLeft (fields .entry))) ⌝ }
+    ensures { λ r. ⌜ Gives (M·Make .kindof) (M·Make .systemtype) (M·Make .texts) (M·Make .made) (M·Make .written) (now (memory .entry) .pool) (now (memory .exit) .pool) (now (out .entry)) (now (out .exit)) r (sets (M·Make .spec) (storeOf (M·Make .kindof) (M·Make .systemtype) (M·Make .texts) (now (memory .entry) .pool)) command (x .number) (holding (storeOf (M·Make .kindof) (M·Make .systemtype) (M·Make .texts) (now (memory .entry) .pool)) (x .number)) (fieldsLeft (fields .entry))) ⌝ }
 {
     let record = memory.read(x);
     if fields_legal::<M>(M::kind(&record), count, fields) {

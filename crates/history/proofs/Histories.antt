@@ -33,7 +33,7 @@ use Rattle.ledger.specs.Ledger.{Store, Holding, fresh, emptied, holding, living
 use Rattle.ledger.specs.Records.{kindNumber, memberKind, target}
 use Rattle.ledger.specs.Texts.{fieldsLegal}
 use Rattle.ledger.specs.Replies.{err, reply, shown, shownRecord}
-use Rattle.ledger.specs.Steps.{Outcome, done, at, says, ok, refused, grown, creates, newSystem, deletes, written, sets, readOrSet}
+use Rattle.ledger.specs.Steps.{newTexts, Outcome, changes, done, at, says, ok, refused, grown, creates, newSystem, deletes, written, sets, readOrSet}
 use Rattle.ledger.specs.Lines.{command, fields}
 use Rattle.ledger.specs.Runs.{Told, short, said, told, next, after}
 use Rattle.history.specs.Orderly.{Steady}
@@ -298,7 +298,7 @@ module _ (S : MakeSpec) (n : ℕ) (few : n ≤ 45000) where
         (subst (λ b. Tale (deletes L cmd i .next) (cond b (gone (i ∷ []) bs) bs)) (sym (ok-got cmd)) (deleted-told i (a .lives)))
 
     set-told : (cmd : Command) (fs ts : List (List ℕ)) (i : ℕ) → Aimed n L cmd (getD fs 0 []) i → Tale (sets S L cmd i (holding L i) ts .next) (retoldAt S bs (named fs) ts (accepted cmd (sets S L cmd i (holding L i) ts .said)))
-    set-told cmd fs ts i a = elim (fieldsLegal S (holding L i .kind) 0 ts) as (λ b. Tale (cond b (ok (written S L i (holding L i) ts) cmd) (refused L err) .next) (retoldAt S bs (named fs) ts (accepted cmd (cond b (ok (written S L i (holding L i) ts) cmd) (refused L err) .said)))) [
+    set-told cmd fs ts i a = elim (fieldsLegal S (holding L i .kind) 0 ts) as (λ b. Tale (cond b (changes (written S L i (holding L i) ts) (newTexts i ts) cmd) (refused L err) .next) (retoldAt S bs (named fs) ts (accepted cmd (cond b (changes (written S L i (holding L i) ts) (newTexts i ts) cmd) (refused L err) .said)))) [
       | true ↦ subst (λ o. Tale (written S L i (holding L i) ts) (retoldAt S bs o ts (accepted cmd (reply (nameOf cmd) (codes "OK" ∷ []))))) (sym (a .told))
           (subst (λ b. Tale (written S L i (holding L i) ts) (cond b (map (retold S i ts) bs) bs)) (sym (ok-got cmd)) (written-told i (a .lives) ts))
       | false ↦ subst (λ b. Tale L (retoldAt S bs (named fs) ts b)) (sym (silent-err .got cmd)) (subst (Tale L) (sym (retold-none S bs (named fs) ts)) T)

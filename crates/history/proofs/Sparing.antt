@@ -30,7 +30,7 @@ use Rattle.ledger.specs.Ledger.{Store, Holding, holding, living, systems}
 use Rattle.ledger.specs.Records.{memberKind, target}
 use Rattle.ledger.specs.Texts.{fieldsLegal}
 use Rattle.ledger.specs.Replies.{err, reply, shown, shownRecord}
-use Rattle.ledger.specs.Steps.{Outcome, done, at, says, ok, refused, grown, creates, newSystem, deletes, written, sets, readOrSet}
+use Rattle.ledger.specs.Steps.{newTexts, Outcome, changes, done, at, says, ok, refused, grown, creates, newSystem, deletes, written, sets, readOrSet}
 use Rattle.ledger.specs.Lines.{command, fields}
 use Rattle.ledger.specs.Runs.{Told, short, said, told, next, after}
 use Rattle.history.specs.Orderly.{Steady}
@@ -135,7 +135,7 @@ module _ (S : MakeSpec) (n : ℕ) (few : n ≤ 45000) where
         by None = refl
         by (Some i) = elim (eqb (length gs) 1) as (λ b. cond b (says L cmd (shownRecord S L i (holding L i))) (sets S L cmd i (holding L i) (drop 1 gs)) .next .blocks .free ≡ L .blocks .free) [
           | true ↦ refl
-          | false ↦ elim (fieldsLegal S (holding L i .kind) 0 (drop 1 gs)) as (λ b. cond b (ok (written S L i (holding L i) (drop 1 gs)) cmd) (refused L err) .next .blocks .free ≡ L .blocks .free) [ true ↦ refl | false ↦ refl ]
+          | false ↦ elim (fieldsLegal S (holding L i .kind) 0 (drop 1 gs)) as (λ b. cond b (changes (written S L i (holding L i) (drop 1 gs)) (newTexts i (drop 1 gs)) cmd) (refused L err) .next .blocks .free ≡ L .blocks .free) [ true ↦ refl | false ↦ refl ]
         ]
 
     done-free : (c : Command) (gs : List (List ℕ)) → done S L c gs .next .blocks .free ≡ spared n bs (L .blocks .free) c gs (done S L c gs .said)

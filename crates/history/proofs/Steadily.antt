@@ -32,7 +32,7 @@ use Rattle.ledger.specs.Ledger.{Store, Holding, fresh, emptied, blockCount, hol
 use Rattle.ledger.specs.Records.{isFor, memberKind, upTo, meant, target}
 use Rattle.ledger.specs.Texts.{fieldsLegal, fieldsSet}
 use Rattle.ledger.specs.Replies.{err, shown, shownRecord}
-use Rattle.ledger.specs.Steps.{Outcome, done, at, says, ok, refused, grown, creates, newSystem, written, sets, readOrSet}
+use Rattle.ledger.specs.Steps.{newTexts, Outcome, changes, done, at, says, ok, refused, grown, creates, newSystem, written, sets, readOrSet}
 use Rattle.ledger.specs.Lines.{fields}
 use Rattle.ledger.specs.Runs.{Told, told, next}
 use Rattle.history.specs.Orderly.{Orderly, Steady, slot}
@@ -259,7 +259,7 @@ module _ (S : MakeSpec) (n : ℕ) where
     new-steady (Some t) = elim (leb mostSystems (length (systems L))) as (λ b. Steady S n (cond b (says L Csy (shown 0 ∷ [])) (creates S L Csy 0 System t) .next)) [ true ↦ F | false ↦ steady-grown 0 open-root System t ]
 
     set-steady : (c : Command) (i : ℕ) → living L i ≡ true → (ts : List (List ℕ)) → Steady S n (sets S L c i (holding L i) ts .next)
-    set-steady c i lives ts = elim (fieldsLegal S (holding L i .kind) 0 ts) as (λ b. Steady S n (cond b (ok (written S L i (holding L i) ts) c) (refused L err) .next)) [ true ↦ steady-written i lives ts | false ↦ F ]
+    set-steady c i lives ts = elim (fieldsLegal S (holding L i .kind) 0 ts) as (λ b. Steady S n (cond b (changes (written S L i (holding L i) ts) (newTexts i ts) c) (refused L err) .next)) [ true ↦ steady-written i lives ts | false ↦ F ]
 
     read-steady : (c : Command) (fs : List (List ℕ)) → Steady S n (readOrSet S L c fs .next)
     read-steady c fs = at-steady c (getD fs 0 []) _ (λ i lives. elim (eqb (length fs) 1) as (λ b. Steady S n (cond b (says L c (shownRecord S L i (holding L i))) (sets S L c i (holding L i) (drop 1 fs)) .next)) [ true ↦ F | false ↦ set-steady c i lives (drop 1 fs) ])

@@ -11,6 +11,7 @@ use Rattle.ledger.specs.declared.answer.Answer.{Answer}
 use Rattle.ledger.specs.declared.answer.Answer.the-variants.{ShortBuffer, Reply}
 use Rattle.ledger.specs.Limits.{leastBuffer}
 use Rattle.ledger.specs.Ledger.{Ledger}
+use Rattle.ledger.specs.Steps.{Change, unchanged}
 
 -- a short buffer is number 1, and a reply has none
 abbrev pub numberOf : Answer → Option ℕ
@@ -33,3 +34,7 @@ bufferOf o t = cond (ltb (length o) leastBuffer) o (put o 0 t)
 -- the ledger then: L′, or as it was
 abbrev pub nextOf : List ℕ → Ledger → Ledger → Ledger
 nextOf o L L′ = cond (ltb (length o) leastBuffer) L L′
+
+-- and what became of the records: x, or nothing
+abbrev pub changeOf : List ℕ → Change → Change
+changeOf o x = cond (ltb (length o) leastBuffer) unchanged x

@@ -17,7 +17,7 @@ use Rattle.ledger.specs.Limits.{longestLine}
 use Rattle.ledger.specs.Commands.{commandOf, takesOf, allowed, counts}
 use Rattle.ledger.specs.Ledger.{Ledger}
 use Rattle.ledger.specs.Replies.{orer, err, ng}
-use Rattle.ledger.specs.Steps.{Outcome, done}
+use Rattle.ledger.specs.Steps.{Change, unchanged, Outcome, done}
 
 -- every byte is from 32 to 126
 abbrev pub printable : List ℕ → Bool
@@ -59,18 +59,19 @@ modeAfter m Cin = m
 modeAfter m Tin = m
 modeAfter m Tfq = m
 
--- the reply of a line, and the ledger behind it
+-- the reply of a line, the ledger behind it, and what became of the table of records
 pub record Heard : Type 0 where
   pub said : List ℕ
   pub next : Ledger
+  pub change : Change
 
 -- a refusal leaves the ledger as it was
 abbrev pub refuses : Ledger → List ℕ → Heard
-refuses L t = record { said = t; next = L }
+refuses L t = record { said = t; next = L; change = unchanged }
 
 -- a command that is done
 abbrev pub does : Mode → Outcome → Heard
-does m o = record { said = o .said; next = record { mode = m; store = o .next } }
+does m o = record { said = o .said; next = record { mode = m; store = o .next }; change = o .change }
 
 -- ERR where the count of fields is wrong; else the command is done
 abbrev pub counted : MakeSpec → Ledger → Command → List (List ℕ) → Heard

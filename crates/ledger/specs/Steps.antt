@@ -24,21 +24,34 @@ use Rattle.ledger.specs.Records.{memberKind, target}
 use Rattle.ledger.specs.Replies.{reply, err, shown, shownRecord, ends}
 use Rattle.ledger.specs.Texts.{fieldsLegal, fieldsSet}
 
--- the reply of a line, and the store behind it
+-- what becomes of the table of records: it stays, or every block gets a blank record, or block x gets a new record of kind k and
+-- type n (block 0 is none), or the fields ts of a set line are written into the record of block i
+pub data Change : Type 0 where
+  unchanged : Change
+  cleared : Change
+  newRecord : ℕ → Kind → ℕ → Change
+  newTexts : ℕ → List (List ℕ) → Change
+
+-- the reply of a line, the store behind it, and what became of the table of records
 pub record Outcome : Type 0 where
   pub said : List ℕ
   pub next : Store
+  pub change : Change
 
 -- a refusal leaves the store as it was
 abbrev pub refused : Store → List ℕ → Outcome
-refused L t = record { said = t; next = L }
+refused L t = record { said = t; next = L; change = unchanged }
 
--- a reply that leaves the store L
+-- a reply that leaves the store L, whose records stay
 abbrev pub says : Store → Command → List (List ℕ) → Outcome
-says L c ts = record { said = reply (nameOf c) ts; next = L }
+says L c ts = record { said = reply (nameOf c) ts; next = L; change = unchanged }
+
+-- OK, with the store L and a change of the records
+abbrev pub changes : Store → Change → Command → Outcome
+changes L x c = record { said = reply (nameOf c) (codes "OK" ∷ []); next = L; change = x }
 
 abbrev pub ok : Store → Command → Outcome
-ok L c = says L c (codes "OK" ∷ [])
+ok L c = changes L unchanged c
 
 -- the front free block goes to the end of chain c and holds a new record; where no block is free nothing changes
 abbrev pub grownBy : MakeSpec → Store → List ℕ → ℕ → Kind → ℕ → Store
@@ -50,7 +63,7 @@ grown S L c k n = grownBy S L (L .blocks .free) c k n
 
 -- a creation answers the index of the front free block, or -1 where no block is free
 abbrev pub creates : MakeSpec → Store → Command → ℕ → Kind → ℕ → Outcome
-creates S L c x k n = says (grown S L x k n) c (shown (headOr 0 (L .blocks .free)) ∷ [])
+creates S L c x k n = record { said = reply (nameOf c) (shown (headOr 0 (L .blocks .free)) ∷ []); next = grown S L x k n; change = newRecord (headOr 0 (L .blocks .free)) k n }
 
 -- a new system of a type that the make has; -1 where there are as many as there may be
 abbrev pub newSystem : MakeSpec → Store → Option ℕ → Outcome
@@ -71,7 +84,7 @@ abbrev pub written : MakeSpec → Store → ℕ → Holding → List (List ℕ) 
 written S L i h ts = record { blocks = L .blocks; held = set (L .held) (i - 1) (record { kind = h .kind; systemType = h .systemType; texts = fieldsSet S (h .kind) 0 ts (h .texts) }) }
 
 abbrev pub sets : MakeSpec → Store → Command → ℕ → Holding → List (List ℕ) → Outcome
-sets S L c i h ts = cond (fieldsLegal S (h .kind) 0 ts) (ok (written S L i h ts) c) (refused L err)
+sets S L c i h ts = cond (fieldsLegal S (h .kind) 0 ts) (changes (written S L i h ts) (newTexts i ts) c) (refused L err)
 
 -- an index alone reads the record, an index and every field set it
 abbrev pub readOrSet : MakeSpec → Store → Command → List (List ℕ) → Outcome
@@ -81,7 +94,7 @@ readOrSet S L c fs = at L (target L c (getD fs 0 [])) (λ i. cond (eqb (length f
 abbrev pub done : MakeSpec → Store → Command → List (List ℕ) → Outcome
 done S L Prg fs = ok L Prg
 done S L Epg fs = ok L Epg
-done S L Clr fs = ok (emptied S (blockCount L)) Clr
+done S L Clr fs = changes (emptied S (blockCount L)) cleared Clr
 done S L Sct fs = says L Sct (decimal (length (systems L)) ∷ [])
 done S L Sih fs = says L Sih (shown (headOr 0 (systems L)) ∷ [])
 done S L Sit fs = says L Sit (shown (lastOr 0 (systems L)) ∷ [])

@@ -10,7 +10,9 @@ ghost use Rattle.text.specs.Fields.{fieldsLeft};
 ghost use Rattle.ledger.specs.Ledger.{numberOf, holding, living};
 ghost use Rattle.ledger.specs.Texts.{fieldsLegal};
 ghost use Rattle.ledger.specs.Steps.{grown, written};
+ghost use Rattle.pool.specs.Elements.{stored};
 ghost use Rattle.memory.specs.View.{storeOf, Spared};
+ghost use Rattle.memory.specs.Table.{rewritten};
 ghost use Rattle.reply.specs.Shown.{Proper};
 use crate::memory::Memory;
 use chain::Chain;
@@ -27,6 +29,7 @@ impl<'a, M: Make> Memory<'a, M> {
         ensures value { λ r. ⌜ numberOf r ≡ headOr 0 ((storeOf (M·Make .kindof) (M·Make .systemtype) (M·Make .texts) (now (self .entry) .pool)) .blocks .free) ⌝ }
         ensures proper { λ r. ⌜ Proper r ⌝ }
         ensures store { λ r. ⌜ (storeOf (M·Make .kindof) (M·Make .systemtype) (M·Make .texts) (now (self .exit) .pool)) ≡ grown (M·Make .spec) (storeOf (M·Make .kindof) (M·Make .systemtype) (M·Make .texts) (now (self .entry) .pool)) (number chain) kind «system_type» ⌝ }
+        ensures records { λ _. ⌜ now (now (self .exit) .pool .elements) ≡ stored (headOr 0 ((storeOf (M·Make .kindof) (M·Make .systemtype) (M·Make .texts) (now (self .entry) .pool)) .blocks .free)) (M·Make .made kind «system_type») (now (now (self .entry) .pool .elements)) ⌝ }
         ensures spared { λ _. ⌜ Spared (now (self .entry) .pool) (now (self .exit) .pool) ⌝ }
     {
         let record = M::fresh(kind, system_type);
@@ -37,6 +40,7 @@ impl<'a, M: Make> Memory<'a, M> {
     pub fn delete(&mut self, x: Index)
         requires living { ⌜ living (storeOf (M·Make .kindof) (M·Make .systemtype) (M·Make .texts) (now self .pool)) (x .number) ≡ true ⌝ }
         ensures store { λ r. ⌜ (storeOf (M·Make .kindof) (M·Make .systemtype) (M·Make .texts) (now (self .exit) .pool)) ≡ record { blocks = deleted ((storeOf (M·Make .kindof) (M·Make .systemtype) (M·Make .texts) (now (self .entry) .pool)) .blocks) (x .number); held = (storeOf (M·Make .kindof) (M·Make .systemtype) (M·Make .texts) (now (self .entry) .pool)) .held } ⌝ }
+        ensures records { λ _. ⌜ now (now (self .exit) .pool .elements) ≡ now (now (self .entry) .pool .elements) ⌝ }
         ensures spared { λ _. ⌜ Spared (now (self .entry) .pool) (now (self .exit) .pool) ⌝ }
     {
         self.pool.delete(x);
@@ -48,6 +52,7 @@ impl<'a, M: Make> Memory<'a, M> {
         requires few { ⌜ length (fieldsLeft fields) ≤ count ⌝ }
         requires legal { ⌜ fieldsLegal (M·Make .spec) (holding (storeOf (M·Make .kindof) (M·Make .systemtype) (M·Make .texts) (now self .pool)) (x .number) .kind) 0 (fieldsLeft fields) ≡ true ⌝ }
         ensures store { λ _. ⌜ (storeOf (M·Make .kindof) (M·Make .systemtype) (M·Make .texts) (now (self .exit) .pool)) ≡ written (M·Make .spec) (storeOf (M·Make .kindof) (M·Make .systemtype) (M·Make .texts) (now (self .entry) .pool)) (x .number) (holding (storeOf (M·Make .kindof) (M·Make .systemtype) (M·Make .texts) (now (self .entry) .pool)) (x .number)) (fieldsLeft (fields .entry)) ⌝ }
+        ensures records { λ _. ⌜ now (now (self .exit) .pool .elements) ≡ rewritten (M·Make .made) (M·Make .written) (x .number) (fieldsLeft (fields .entry)) (now (now (self .entry) .pool .elements)) ⌝ }
         ensures spared { λ _. ⌜ Spared (now (self .entry) .pool) (now (self .exit) .pool) ⌝ }
     {
         let mut record = self.pool.read(x);

@@ -5,4 +5,4 @@ use Rattle.engine.proofs.calls.command.Needs as need
 pub returns : need.returns
 returns g c =
     let n = c .answer .last .memory in
-    record { answer = c .answer .ensures .answer; buffer = c .answer .ensures .buffer; ledger = c .answer .ensures .ledger; links = λ i low high. link-is (n .pool .chains) (n .sound) i low high; spared = c .answer .ensures .spared }
+    record { answer = c .answer .ensures .answer; buffer = c .answer .ensures .buffer; ledger = c .answer .ensures .ledger; links = λ i low high. link-is (n .pool .chains) (n .sound) i low high; records = c .answer .ensures .records; spared = c .answer .ensures .spared }

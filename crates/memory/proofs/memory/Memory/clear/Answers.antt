@@ -10,7 +10,7 @@ use Rattle.chain.specs.View.{blocksOf, freeOf}
 use Rattle.make.specs.declared.kind.Kind.{Kind}
 use Rattle.make.specs.declared.kind.Kind.the-variants.{System}
 use Rattle.make.specs.Data.{startsOf}
-use Rattle.pool.specs.Elements.{stored}
+use Rattle.pool.specs.Elements.{filled}
 use Rattle.ledger.specs.Ledger.{Store, Holding, fresh, typeFor}
 use Rattle.memory.specs.View.{storeOf, meaning}
 use Rattle.ledger.specs.Ledger.{emptied, blockCount}
@@ -35,5 +35,6 @@ returns g c =
     let same = held-length (meaning K T X) n (now (p .elements)) (m .roomy) in
     record {
       store = same-store _ _ _ _ (c .reopen .ensures .blocks) held ∙ ap (emptied (g .M·Make .spec)) (sym same);
+      records = c .reopen .ensures .elements ∙ ap (λ r. filled n r (now (p .elements))) (c .fresh-blank .ensures .value);
       spared = record { count = c .reopen .ensures .count; links = c .reopen .ensures .later; records = drop-filled n (now (p .elements)) (now (q .elements)) (c .fresh-blank .result) (c .reopen .ensures .elements) };
     }

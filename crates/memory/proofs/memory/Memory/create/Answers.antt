@@ -41,5 +41,6 @@ returns g c =
       value = number-is _ x (c .create .ensures .answer);
       proper = proper _ x (c .create .ensures .answer) (omega (arith, front, m .few));
       store = grown-is (g .M·Make .spec) (storeOf K T X p) (number (c .args .chain)) k n (blocksOf (q .chains)) (map (meaning K T X) (take (q .chains .count) (now (q .elements)))) (c .create .ensures .blocks) held;
+      records = c .create .ensures .elements ∙ ap (λ r. stored x r (now (p .elements))) (c .fresh-record .ensures .value);
       spared = record { count = c .create .ensures .count; links = c .create .ensures .later; records = drop-stored (p .chains .count) x (now (p .elements)) (now (q .elements)) (c .fresh-record .result) front (c .create .ensures .elements) };
     }

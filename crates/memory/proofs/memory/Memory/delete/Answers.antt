@@ -28,5 +28,6 @@ returns g c =
     let mean = meaning (g .M·Make .kindof) (g .M·Make .systemtype) (g .M·Make .texts) in
     record {
       store = same-store _ _ _ _ (c .delete .ensures .blocks) (ap (λ z. map mean (take z (now (q .elements)))) (c .delete .ensures .count) ∙ ap (λ z. map mean (take (p .chains .count) z)) (c .delete .ensures .elements));
+      records = c .delete .ensures .elements;
       spared = record { count = c .delete .ensures .count; links = c .delete .ensures .later; records = ap (drop (p .chains .count)) (c .delete .ensures .elements) };
     }

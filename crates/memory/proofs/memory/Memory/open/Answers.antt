@@ -6,9 +6,10 @@ use native.Mathlib.Omega.{arith}
 use lib.ListN.{length, take, drop, set, replicate}
 use Rattle.make.specs.declared.kind.Kind.the-variants.{System}
 use Rattle.make.specs.Data.{startsOf}
+use Rattle.pool.specs.Elements.{filled}
 use Rattle.ledger.specs.Ledger.{Store, Holding, fresh, emptied, typeFor}
 use Rattle.memory.specs.View.{storeOf, meaning}
-use Rattle.memory.proofs.Holdings.{held-filled, drop-filled}
+use Rattle.memory.proofs.Holdings.{held-filled}
 use Rattle.memory.proofs.Stores.{same-store, means}
 use Rattle.memory.proofs.memory.Memory.open.Needs as need
 
@@ -26,5 +27,5 @@ returns g c =
     record {
       store = same-store _ _ _ _ (c .open .ensures .blocks) held ∙ ap (emptied (g .M·Make .spec)) count;
       links = c .open .ensures .later;
-      records = drop-filled n (c .args .records .now) (now (q .elements)) (c .fresh-blank .result) (c .open .ensures .elements);
+      records = c .open .ensures .elements ∙ ap (λ r. filled n r (c .args .records .now)) (c .fresh-blank .ensures .value);
     }

@@ -7,6 +7,7 @@ use native.Mathlib.Omega.{arith}
 use lib.ListN.{length, take, drop, set, length-set}
 use Rattle.std.proofs.shelf.Lists.{drop-set-lt}
 use Rattle.make.specs.declared.kind.Kind.{Kind}
+use Rattle.make.specs.declared.kind.Kind.the-variants.{System}
 use Rattle.chain.specs.declared.chains.Chains.{Chains}
 use Rattle.chain.specs.View.{Sound, blocksOf}
 use Rattle.text.specs.Fields.{fieldsLeft}
@@ -57,5 +58,6 @@ returns g c =
     let count = ap (λ (z : Chains). z .count) (c .replace .ensures .same) in
     record {
       store = same-store _ _ _ _ (ap blocksOf (c .replace .ensures .same)) (ap (λ z. map (meaning K T X) (take z (now (q .elements)))) count ∙ held-set (meaning K T X) (p .chains .count) (x - 1) (now (p .elements)) (now (q .elements)) (c .write-fields .last .record) _ (c .replace .ensures .elements) new);
+      records = c .replace .ensures .elements ∙ ap (set (now (p .elements)) (x - 1)) (c .write-fields .ensures .after ∙ ap (λ z. fieldsWritten (g .M·Make .written) z 0 ts) (c .read-record .ensures (g .M·Make .made System 0)));
       spared = record { count = count; links = ap (λ (z : Chains). drop (p .chains .count) (now (z .links))) (c .replace .ensures .same); records = ap (drop (p .chains .count)) (c .replace .ensures .elements) ∙ drop-set-lt (p .chains .count) (now (p .elements)) (x - 1) (c .write-fields .last .record) (omega (arith, u)) };
     }
