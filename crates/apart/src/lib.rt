@@ -1,4 +1,6 @@
 // A set line tested apart from its write: a test makes a tested line of an untested one, and a write takes the tested line.
+#![tactic(auto)]
+
 mod calls;
 mod judging;
 mod laws;

@@ -1,4 +1,6 @@
 // The make BC346XT.
+#![tactic(auto)]
+
 mod channel;
 mod keeping;
 mod record;

@@ -1,4 +1,6 @@
 // The make BCD996T.
+#![tactic(auto)]
+
 mod channel;
 mod keeping;
 mod record;

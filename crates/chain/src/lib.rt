@@ -1,3 +1,5 @@
+#![tactic(auto)]
+
 mod chains;
 mod entry;
 mod laws;

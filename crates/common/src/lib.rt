@@ -1,4 +1,6 @@
 // What both makes hold alike: names, and the settings of sites, groups and trunk frequencies.
+#![tactic(auto)]
+
 mod group;
 mod name;
 mod site;

@@ -1,4 +1,6 @@
 // The engine: takes the receiver's command lines, keeps the memory, and gives the receiver's replies.
+#![tactic(auto)]
+
 mod calls;
 mod creating;
 mod deleting;

@@ -1,2 +1,4 @@
 // The laws over whole runs: what the replies to further lines say, and what the lines and replies of a run tell of its records.
+#![tactic(auto)]
+
 pub mod laws;

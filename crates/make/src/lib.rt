@@ -1,4 +1,6 @@
 // Makes of record: the kinds, what a make fixes, and the trait that every make keeps.
+#![tactic(auto)]
+
 mod bytes;
 mod find;
 mod kind;

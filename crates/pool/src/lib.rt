@@ -1,3 +1,5 @@
+#![tactic(auto)]
+
 mod pool;
 mod reading;
 mod sequence;

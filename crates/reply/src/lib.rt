@@ -1,4 +1,6 @@
 // Replies, written into the buffer that comes with a line.
+#![tactic(auto)]
+
 pub mod fields;
 pub mod links;
 pub mod pieces;

@@ -1,4 +1,6 @@
 // The sheet: a line of names for each kind that has records, and a row for each record.
+#![tactic(auto)]
+
 mod names;
 mod rows;
 

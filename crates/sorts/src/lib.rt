@@ -1,4 +1,6 @@
 // The sorts of field: reading, testing and showing their texts.
+#![tactic(auto)]
+
 mod laws;
 mod name;
 mod range;

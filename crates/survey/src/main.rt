@@ -1,4 +1,6 @@
 // survey: reads a receiver's command lines, each ended by CR, and writes the replies and then the sheet.
+#![tactic(auto)]
+
 use bcd996t::Bcd996t;
 use chain::Link;
 use make::{Kind, Make};

@@ -2,8 +2,8 @@ use Rattle.std.proofs.Common.{◌≡◌, length, sym, ap, ◌∙◌, arith}
 use Rattle.line.proofs.Reading.{cuts_length, cuts_none}
 use Rattle.line.proofs.parts.parts_of.Goals as goal
 
-pub count-left-count-requires : goal.count-left-count-requires
-count-left-count-requires c =
+pub count_left-count-requires : goal.count_left-count-requires
+count_left-count-requires c =
     let e = ap length c.in-Some.ensures.value.0 in
     let f = ap length c.of-fields.ensures in
     record { few = omega (arith, cuts_length c.args.line.now, e, f, c.requires.few) }

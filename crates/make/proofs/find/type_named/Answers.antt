@@ -5,18 +5,18 @@ use Rattle.make.specs.Data.{named_from}
 use Rattle.make.proofs.Names.{named_step}
 use Rattle.make.proofs.find.type_named.Goals as goal
 
-pub returns-then-is-type : goal.returns-then-is-type
-returns-then-is-type g c =
+pub returns-then-is_type : goal.returns-then-is_type
+returns-then-is_type g c =
     let ts = g.M.Make.spec.types in
     let t = c.args.text.now in
-    let e = sym c.is-type.ensures.value ∙ c.if-is-type.true in
+    let e = sym c.is_type.ensures.value ∙ c.if-is_type.true in
     record { value = sym (named_step ts t c.loop-i.i true (omega arith) e) ∙ c.loop-i.invariant }
 
 pub loop-i-preserved : goal.loop-i-preserved
 loop-i-preserved g c =
     let ts = g.M.Make.spec.types in
     let t = c.args.text.now in
-    let e = sym c.is-type.ensures.value ∙ c.if-is-type.false in
+    let e = sym c.is_type.ensures.value ∙ c.if-is_type.false in
     sym (named_step ts t c.loop-i.i false (omega arith) e) ∙ c.loop-i.invariant
 
 pub returns : goal.returns

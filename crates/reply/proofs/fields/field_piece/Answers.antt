@@ -6,6 +6,6 @@ pub returns : goal.returns
 returns g c =
     let t = get_or (g.M.Make.texts c.args.record.now) c.args.field [] in
     record {
-      bound = omega (arith, c.put-byte-next.ensures.end, c.show.ensures.bound);
-      texts = one c.args.out.now c.put-byte-next.new.out c.show.new.out t c.args.at c.put-byte-next.result c.show.result c.put-byte-next.ensures.buffer c.put-byte-next.ensures.end c.show.ensures.buffer c.show.ensures.end (omega arith);
+      bound = omega (arith, c.put_byte-next.ensures.end, c.show.ensures.bound);
+      texts = one c.args.out.now c.put_byte-next.new.out c.show.new.out t c.args.at c.put_byte-next.result c.show.result c.put_byte-next.ensures.buffer c.put_byte-next.ensures.end c.show.ensures.buffer c.show.ensures.end (omega arith);
     }

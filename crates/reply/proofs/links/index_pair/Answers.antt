@@ -7,6 +7,6 @@ use Rattle.reply.proofs.links.index_pair.Goals as goal
 pub returns : goal.returns
 returns c =
     record {
-      bound = omega (arith, c.index-piece-next.ensures.bound, c.index-piece.ensures.bound);
-      texts = both c.args.out.now c.index-piece-next.new.out c.index-piece.new.out (shown (number_of c.args.first) ∷ []) (shown (number_of c.args.second) ∷ []) c.args.at c.index-piece-next.result c.index-piece.result c.index-piece-next.ensures.texts c.index-piece.ensures.texts (omega (arith, c.index-piece-next.ensures.bound));
+      bound = omega (arith, c.index_piece-next.ensures.bound, c.index_piece.ensures.bound);
+      texts = both c.args.out.now c.index_piece-next.new.out c.index_piece.new.out (shown (number_of c.args.first) ∷ []) (shown (number_of c.args.second) ∷ []) c.args.at c.index_piece-next.result c.index_piece.result c.index_piece-next.ensures.texts c.index_piece.ensures.texts (omega (arith, c.index_piece-next.ensures.bound));
     }

@@ -5,6 +5,6 @@ use Rattle.reply.proofs.pieces.number_piece.Goals as goal
 pub returns : goal.returns
 returns c =
     record {
-      bound = omega (arith, c.put-byte-next.ensures.end, c.put-number.ensures.bound);
-      texts = one c.args.out.now c.put-byte-next.new.out c.put-number.new.out (decimal c.args.n) c.args.at c.put-byte-next.result c.put-number.result c.put-byte-next.ensures.buffer c.put-byte-next.ensures.end c.put-number.ensures.buffer c.put-number.ensures.end (omega arith);
+      bound = omega (arith, c.put_byte-next.ensures.end, c.put_number.ensures.bound);
+      texts = one c.args.out.now c.put_byte-next.new.out c.put_number.new.out (decimal c.args.n) c.args.at c.put_byte-next.result c.put_number.result c.put_byte-next.ensures.buffer c.put_byte-next.ensures.end c.put_number.ensures.buffer c.put_number.ensures.end (omega arith);
     }

@@ -5,6 +5,6 @@ use Rattle.reply.proofs.pieces.piece.Goals as goal
 pub returns : goal.returns
 returns c =
     record {
-      bound = omega (arith, c.put-byte-next.ensures.end, c.put-bytes.ensures.end);
-      texts = one c.args.out.now c.put-byte-next.new.out c.put-bytes.new.out c.args.text.now c.args.at c.put-byte-next.result c.put-bytes.result c.put-byte-next.ensures.buffer c.put-byte-next.ensures.end c.put-bytes.ensures.buffer c.put-bytes.ensures.end (omega arith);
+      bound = omega (arith, c.put_byte-next.ensures.end, c.put_bytes.ensures.end);
+      texts = one c.args.out.now c.put_byte-next.new.out c.put_bytes.new.out c.args.text.now c.args.at c.put_byte-next.result c.put_bytes.result c.put_byte-next.ensures.buffer c.put_byte-next.ensures.end c.put_bytes.ensures.buffer c.put_bytes.ensures.end (omega arith);
     }

@@ -11,7 +11,7 @@ returns-in-Some c =
     let here : number_of c.args.index ≡ c.number.result = ap number_of c.in-Some.is ∙ sym c.number.ensures in
     let text : shown (number_of c.args.index) ≡ decimal c.number.result = shown_block (number_of c.args.index) i (sym c.in-Some.is ∙ c.requires.index.block) ∙ ap decimal here in
     record {
-      end = c.put-number.ensures.end ∙ ap (λ t. c.args.at + length t) (sym text);
-      bound = c.put-number.ensures.bound;
-      buffer = c.put-number.ensures.buffer ∙ ap (put c.args.out.now c.args.at) (sym text);
+      end = c.put_number.ensures.end ∙ ap (λ t. c.args.at + length t) (sym text);
+      bound = c.put_number.ensures.bound;
+      buffer = c.put_number.ensures.buffer ∙ ap (put c.args.out.now c.args.at) (sym text);
     }

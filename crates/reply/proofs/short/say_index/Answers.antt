@@ -10,5 +10,5 @@ returns c =
     let o = c.args.out.now in
     let name = name_of c.args.command in
     let w0 = begin o c.start-at.new.out name c.start-at.result c.start-at.ensures.wrote in
-    let w1 = going o c.start-at.new.out c.index-piece-end.new.out name [] (shown (number_of c.args.index) ∷ []) c.start-at.result c.index-piece-end.result w0 c.index-piece-end.ensures.texts (omega arith) in
-    finish o c.index-piece-end.new.out c.put-byte.new.out name (shown (number_of c.args.index) ∷ []) c.index-piece-end.result c.put-byte.result w1 c.put-byte.ensures.buffer c.put-byte.ensures.end (omega arith)
+    let w1 = going o c.start-at.new.out c.index_piece-end.new.out name [] (shown (number_of c.args.index) ∷ []) c.start-at.result c.index_piece-end.result w0 c.index_piece-end.ensures.texts (omega arith) in
+    finish o c.index_piece-end.new.out c.put_byte.new.out name (shown (number_of c.args.index) ∷ []) c.index_piece-end.result c.put_byte.result w1 c.put_byte.ensures.buffer c.put_byte.ensures.end (omega arith)

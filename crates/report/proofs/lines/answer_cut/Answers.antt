@@ -7,8 +7,8 @@ pub returns : goal.returns
 returns g c =
     let S = g.M.Make.spec in
     let L = ledger_of g.M.Make.kindof g.M.Make.systemtype g.M.Make.texts c.args.session.now c.args.memory.now.pool in
-    let len = c.copy-line-len.result in
+    let len = c.copy_line-len.result in
     let zero : len - 0 ≡ len = omega arith in
-    let e : take (len - 0) c.copy-line-len.new.buffer ≡ take 257 c.args.line.now = ap (λ k. take k c.copy-line-len.new.buffer) zero ∙ c.copy-line-len.ensures.copied in
-    let P : List ℕ → Type 0 = λ t. IfOk c.answer-line.result (λ _. vec_items c.answer-line.new.out ≡ vec_items c.args.out.now ++ (step S L t).said) in
-    record { replies = subst P e c.answer-line.ensures.replies; ledger = c.answer-line.ensures.ledger ∙ ap (λ t. (step S L t).next) e }
+    let e : take (len - 0) c.copy_line-len.new.buffer ≡ take 257 c.args.line.now = ap (λ k. take k c.copy_line-len.new.buffer) zero ∙ c.copy_line-len.ensures.copied in
+    let P : List ℕ → Type 0 = λ t. IfOk c.answer_line.result (λ _. vec_items c.answer_line.new.out ≡ vec_items c.args.out.now ++ (step S L t).said) in
+    record { replies = subst P e c.answer_line.ensures.replies; ledger = c.answer_line.ensures.ledger ∙ ap (λ t. (step S L t).next) e }

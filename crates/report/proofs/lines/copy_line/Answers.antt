@@ -3,5 +3,5 @@ use Rattle.report.proofs.lines.copy_line.Goals as goal
 
 pub returns : goal.returns
 returns c =
-    let p = copied c.args.buffer.now c.put-bytes.new.out c.args.line.now c.min-len.result c.put-bytes.result c.requires.room c.min-len.ensures c.put-bytes.ensures.end c.put-bytes.ensures.buffer in
+    let p = copied c.args.buffer.now c.put_bytes.new.out c.args.line.now c.min-len.result c.put_bytes.result c.requires.room c.min-len.ensures c.put_bytes.ensures.end c.put_bytes.ensures.buffer in
     record { within = p.0; copied = p.1 }

@@ -13,7 +13,7 @@ loop-kind-preserved g c =
     let i = c.loop-kind.kind-index in
     let k = get_or ks i System in
     let o = vec_items c.loop-kind.out in
-    ap (λ z. z ++ parts_of S L (drop (i + 1) ks)) c.in-ok-add-part.ensures ∙ append_assoc o (part S L k) (parts_of S L (drop (i + 1) ks)) ∙ ap (λ z. o ++ z) (sym (at_drop_more (parts_of S L) ks i System c.loop-kind-test.true)) ∙ c.loop-kind.invariant
+    ap (λ z. z ++ parts_of S L (drop (i + 1) ks)) c.in_ok-add_part.ensures ∙ append_assoc o (part S L k) (parts_of S L (drop (i + 1) ks)) ∙ ap (λ z. o ++ z) (sym (at_drop_more (parts_of S L) ks i System c.loop-kind-test.true)) ∙ c.loop-kind.invariant
 
 pub returns : goal.returns
 returns g c =

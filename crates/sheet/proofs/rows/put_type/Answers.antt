@@ -8,14 +8,14 @@ use Rattle.sheet.proofs.rows.put_type.Goals as goal
 
 pub piece-requires : goal.piece-requires
 piece-requires g c =
-    let e = ap length c.type-name.ensures.value in
-    record { room = omega (arith, c.requires.room, e, type_short g.M.Make.spec c.args.system-type g.met.M.Make.keeps) }
+    let e = ap length c.type_name.ensures.value in
+    record { room = omega (arith, c.requires.room, e, type_short g.M.Make.spec c.args.system_type g.met.M.Make.keeps) }
 
 pub returns-in-System : goal.returns-in-System
 returns-in-System g c =
     let S = g.M.Make.spec in
-    let n = c.args.system-type in
-    let e = c.type-name.ensures.value in
+    let n = c.args.system_type in
+    let e = c.type_name.ensures.value in
     let P : List (List ℕ) → Type 0 = λ ts. Listed c.args.out.now c.piece.new.out c.args.at c.piece.result ts in
     record {
       bound = omega (arith, c.piece.ensures.bound, ap length e, type_short S n g.met.M.Make.keeps);
@@ -25,7 +25,7 @@ returns-in-System g c =
 pub returns-in-Site : goal.returns-in-Site
 returns-in-Site g c =
     let S = g.M.Make.spec in
-    let n = c.args.system-type in
+    let n = c.args.system_type in
     let none = none_yet c.args.out.now [] c.args.at 0 (omega arith) in
     let P : Kind → Type 0 = λ k. Listed c.args.out.now c.args.out.now c.args.at c.args.at (type_cell S k n) in
     let is : (k : Kind) → c.args.kind ≡ k → P k → P c.args.kind = λ k e h. subst P (sym e) h in

@@ -9,4 +9,4 @@ returns c =
     let x = c.args.out.now in
     let at = c.args.at in
     let e : at + length t - at ≡ length t = omega arith in
-    ap (put_mid at (at + length t - at) x) c.copy-from-slice.ensures.after ∙ ap (λ m. put_mid at m x t) e ∙ part_put x t at
+    ap (put_mid at (at + length t - at) x) c.copy_from_slice.ensures.after ∙ ap (λ m. put_mid at m x t) e ∙ part_put x t at

@@ -16,5 +16,5 @@ returns c =
     let long : length (take (at + width - at) (drop at x)) ≡ width = length-take-le (at + width - at) (drop at x) (simp length-drop (omega arith)) ∙ e in
     record {
       end = refl;
-      buffer = ap (put_mid at (at + width - at) x) (c.fill-digits.ensures ∙ ap (λ k. fixed k c.args.n) long) ∙ ap (λ m. put_mid at m x t) (e ∙ sym (length-fixed width c.args.n)) ∙ part_put x t at;
+      buffer = ap (put_mid at (at + width - at) x) (c.fill_digits.ensures ∙ ap (λ k. fixed k c.args.n) long) ∙ ap (λ m. put_mid at m x t) (e ∙ sym (length-fixed width c.args.n)) ∙ part_put x t at;
     }

@@ -16,11 +16,11 @@ returns-then-b-lt48 c =
       | then-b-lt48-via-else-b-lt48+then-b-gt57 w ↦ sym (whole ∙ after_high n (get_or t i 0) (drop (i + 1) t) w.if-b-gt57.true)
     ]
 
-pub overflow-mul-n : goal.overflow-mul-n
-overflow-mul-n c = omega (arith, ten_fits (c.loop-b.b-index + 1) (omega arith), ten_more c.loop-b.n c.loop-b.b-index 0 c.loop-b.invariant.1 (omega arith))
+pub overflow_mul-n : goal.overflow_mul-n
+overflow_mul-n c = omega (arith, ten_fits (c.loop-b.b-index + 1) (omega arith), ten_more c.loop-b.n c.loop-b.b-index 0 c.loop-b.invariant.1 (omega arith))
 
-pub overflow-add-n : goal.overflow-add-n
-overflow-add-n c =
+pub overflow_add-n : goal.overflow_add-n
+overflow_add-n c =
     omega (arith, ten_fits (c.loop-b.b-index + 1) (omega arith), ten_more c.loop-b.n c.loop-b.b-index (get_or c.args.text.now c.loop-b.b-index 0 - 48) c.loop-b.invariant.1 (omega arith))
 
 pub loop-b-preserved : goal.loop-b-preserved

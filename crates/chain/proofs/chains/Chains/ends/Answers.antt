@@ -6,8 +6,8 @@ use Rattle.chain.proofs.Moves.{top_within, may_within}
 use Rattle.chain.proofs.Found.{ends_head, ends_tail}
 use Rattle.chain.proofs.chains.Chains.ends.Goals as goal
 
-pub ends-of-requires : goal.ends-of-requires
-ends-of-requires c = let s = loose _ c.requires.sound in within_more _ _ c.args.chain (top_within _ s).1 (may_within _ c.args.chain s c.requires.living)
+pub ends_of-requires : goal.ends_of-requires
+ends_of-requires c = let s = loose _ c.requires.sound in within_more _ _ c.args.chain (top_within _ s).1 (may_within _ c.args.chain s c.requires.living)
 
 pub returns : goal.returns
-returns c = c.ends-of.ensures ∙ (λ j. record { head = ends_head c.args.self.now c.args.chain c.requires.sound c.requires.living j; tail = ends_tail c.args.self.now c.args.chain c.requires.sound c.requires.living j })
+returns c = c.ends_of.ensures ∙ (λ j. record { head = ends_head c.args.self.now c.args.chain c.requires.sound c.requires.living j; tail = ends_tail c.args.self.now c.args.chain c.requires.sound c.requires.living j })

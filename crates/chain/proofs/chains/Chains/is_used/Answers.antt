@@ -5,4 +5,4 @@ use Rattle.chain.proofs.Found.{used_by, used_test}
 use Rattle.chain.proofs.chains.Chains.is_used.Goals as goal
 
 pub returns : goal.returns
-returns c = c.is-used.ensures ∙ ap is_some (used_by (blocks_of c.args.self.now) c.args.x.number _ c.link.ensures) ∙ used_test (blocks_of c.args.self.now) c.args.x.number
+returns c = c.is_used.ensures ∙ ap is_some (used_by (blocks_of c.args.self.now) c.args.x.number _ c.link.ensures) ∙ used_test (blocks_of c.args.self.now) c.args.x.number

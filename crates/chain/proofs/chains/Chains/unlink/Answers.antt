@@ -6,8 +6,8 @@ use Rattle.chain.proofs.Moves.{member_within}
 use Rattle.chain.proofs.Steps.{cut_bounds, cut_within, cut_loose, cut_blocks, cut_later, not_free}
 use Rattle.chain.proofs.chains.Chains.unlink.Goals as goal
 
-pub overflow-sub-link : goal.overflow-sub-link
-overflow-sub-link c = let h = member_within _ _ c.requires.loose c.requires.member in omega arith
+pub overflow_sub-link : goal.overflow_sub-link
+overflow_sub-link c = let h = member_within _ _ c.requires.loose c.requires.member in omega arith
 
 pub bounds-self-x : goal.bounds-self-x
 bounds-self-x c = let h = member_within _ _ c.requires.loose c.requires.member in omega arith
@@ -15,30 +15,30 @@ bounds-self-x c = let h = member_within _ _ c.requires.loose c.requires.member i
 pub join-requires : goal.join-requires
 join-requires c = let h = cut_bounds _ _ c.requires.loose c.requires.member _ c.in-Used.is in record { previous = omega arith; next = omega arith }
 
-pub ends-of-ends-requires : goal.ends-of-ends-requires
-ends-of-ends-requires c =
+pub ends_of-ends-requires : goal.ends_of-ends-requires
+ends_of-ends-requires c =
     let h = cut_bounds _ _ c.requires.loose c.requires.member _ c.in-Used.is in
     within_more _ _ _ (omega (arith, c.join.auto.links)) (cut_within _ _ c.requires.loose c.requires.member _ c.in-Used.is)
 
-pub set-ends-requires : goal.set-ends-requires
-set-ends-requires c =
+pub set_ends-requires : goal.set_ends-requires
+set_ends-requires c =
     let h = cut_bounds _ _ c.requires.loose c.requires.member _ c.in-Used.is in
     within_more _ _ _ (omega (arith, c.join.auto.links)) (cut_within _ _ c.requires.loose c.requires.member _ c.in-Used.is)
 
 pub returns-in-Used : goal.returns-in-Used
 returns-in-Used c =
     let p = c.args.self.now in
-    let p' = c.set-ends.new.self in
+    let p' = c.set_ends.new.self in
     let m = c.in-Used.member in
     let table = c.join.ensures in
-    let e_is = c.ends-of-ends.ensures ∙ ap (λ z. ends_in p.root (link_at z) m.chain) table in
-    let links_is = c.set-ends.ensures.links ∙ ap (λ z. hung z m.chain c.without.result) table in
+    let e_is = c.ends_of-ends.ensures ∙ ap (λ z. ends_in p.root (link_at z) m.chain) table in
+    let links_is = c.set_ends.ensures.links ∙ ap (λ z. hung z m.chain c.without.result) table in
     record {
-      loose = cut_loose p p' c.args.x c.requires.loose c.requires.member m c.in-Used.is _ _ e_is c.without.ensures links_is c.set-ends.ensures.root c.set-ends.ensures.free c.set-ends.ensures.count c.set-ends.ensures.spare;
-      blocks = cut_blocks p p' c.args.x c.requires.loose c.requires.member m c.in-Used.is _ _ e_is c.without.ensures links_is c.set-ends.ensures.root c.set-ends.ensures.free c.set-ends.ensures.count c.set-ends.ensures.spare;
-      count = c.set-ends.ensures.count;
-      later = cut_later p p' c.args.x c.requires.loose c.requires.member m c.in-Used.is _ _ e_is c.without.ensures links_is c.set-ends.ensures.root c.set-ends.ensures.free c.set-ends.ensures.count c.set-ends.ensures.spare;
+      loose = cut_loose p p' c.args.x c.requires.loose c.requires.member m c.in-Used.is _ _ e_is c.without.ensures links_is c.set_ends.ensures.root c.set_ends.ensures.free c.set_ends.ensures.count c.set_ends.ensures.spare;
+      blocks = cut_blocks p p' c.args.x c.requires.loose c.requires.member m c.in-Used.is _ _ e_is c.without.ensures links_is c.set_ends.ensures.root c.set_ends.ensures.free c.set_ends.ensures.count c.set_ends.ensures.spare;
+      count = c.set_ends.ensures.count;
+      later = cut_later p p' c.args.x c.requires.loose c.requires.member m c.in-Used.is _ _ e_is c.without.ensures links_is c.set_ends.ensures.root c.set_ends.ensures.free c.set_ends.ensures.count c.set_ends.ensures.spare;
     }
 
-pub returns-in-default : goal.returns-in-default
-returns-in-default c = absurd (not_free _ c.args.x c.requires.loose c.requires.member _ refl (λ m is. c.in-default.not-Used m is))
+pub returns-in_default : goal.returns-in_default
+returns-in_default c = absurd (not_free _ c.args.x c.requires.loose c.requires.member _ refl (λ m is. c.in_default.not-Used m is))

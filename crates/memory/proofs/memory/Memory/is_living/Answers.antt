@@ -3,4 +3,4 @@ use Rattle.memory.proofs.memory.Memory.is_living.Goals as goal
 
 pub returns : goal.returns
 unfolding store_of
-returns g c = record { value = c.is-used.ensures }
+returns g c = record { value = c.is_used.ensures }

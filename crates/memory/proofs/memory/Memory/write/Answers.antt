@@ -23,8 +23,8 @@ pub replace-requires : goal.replace-requires
 unfolding store_of
 replace-requires g c = let m = c.args.self.now in record { sound = m.sound; roomy = m.roomy; used = c.requires.living }
 
-pub invariant-of-self : goal.invariant-of-self
-invariant-of-self g c =
+pub invariant_of-self : goal.invariant_of-self
+invariant_of-self g c =
     let m = c.args.self.now in
     let same = c.replace.ensures.same in
     let long : length c.replace.new.self.elements.now ≡ length m.pool.elements.now = ap length c.replace.ensures.elements ∙ simp length-set in
@@ -48,10 +48,10 @@ returns g c =
     let u = used_bound p.chains m.sound x c.requires.living in
     let read : meaning K T X r ≡ h = held_at (meaning K T X) p.chains.count (x - 1) p.elements.now r _ (omega (arith, u)) m.roomy c.read-record.ensures in
     let legal : fields_legal S (K r) 0 ts ≡ true = ap (λ (z : Holding). fields_legal S z.kind 0 ts) read ∙ c.requires.legal in
-    let new : meaning K T X c.write-fields.new.record ≡ record { kind = h.kind; system_type = h.systemType; texts = fields_set S h.kind 0 ts h.texts } = ap (meaning K T X) c.write-fields.ensures.after ∙ means_written S K T X r (fields_written g.M.Make.written r 0 ts) ts (all S K T X g.M.Make.written g.met.M.Make.accepted g.met.M.Make.writtenkind g.met.M.Make.writtentype r 0 ts legal) h read in
+    let new : meaning K T X c.write_fields.new.record ≡ record { kind = h.kind; system_type = h.systemType; texts = fields_set S h.kind 0 ts h.texts } = ap (meaning K T X) c.write_fields.ensures.after ∙ means_written S K T X r (fields_written g.M.Make.written r 0 ts) ts (all S K T X g.M.Make.written g.met.M.Make.accepted g.met.M.Make.writtenkind g.met.M.Make.writtentype r 0 ts legal) h read in
     let count = ap (λ (z : Chains). z.count) c.replace.ensures.same in
     record {
-      store = same_store _ _ _ _ (ap blocks_of c.replace.ensures.same) (ap (λ z. map (meaning K T X) (take z q.elements.now)) count ∙ held_set (meaning K T X) p.chains.count (x - 1) p.elements.now q.elements.now c.write-fields.new.record _ c.replace.ensures.elements new);
-      records = c.replace.ensures.elements ∙ ap (set p.elements.now (x - 1)) (c.write-fields.ensures.after ∙ ap (λ z. fields_written g.M.Make.written z 0 ts) (c.read-record.ensures (g.M.Make.made System 0)));
-      spared = record { count = count; links = ap (λ (z : Chains). drop p.chains.count z.links.now) c.replace.ensures.same; records = ap (drop p.chains.count) c.replace.ensures.elements ∙ drop-set-lt p.chains.count p.elements.now (x - 1) c.write-fields.new.record (omega (arith, u)) };
+      store = same_store _ _ _ _ (ap blocks_of c.replace.ensures.same) (ap (λ z. map (meaning K T X) (take z q.elements.now)) count ∙ held_set (meaning K T X) p.chains.count (x - 1) p.elements.now q.elements.now c.write_fields.new.record _ c.replace.ensures.elements new);
+      records = c.replace.ensures.elements ∙ ap (set p.elements.now (x - 1)) (c.write_fields.ensures.after ∙ ap (λ z. fields_written g.M.Make.written z 0 ts) (c.read-record.ensures (g.M.Make.made System 0)));
+      spared = record { count = count; links = ap (λ (z : Chains). drop p.chains.count z.links.now) c.replace.ensures.same; records = ap (drop p.chains.count) c.replace.ensures.elements ∙ drop-set-lt p.chains.count p.elements.now (x - 1) c.write_fields.new.record (omega (arith, u)) };
     }

@@ -11,8 +11,8 @@ use Rattle.pool.proofs.pool.Pool.block_at.Goals as goal
 pub loop-at-init : goal.loop-at-init
 loop-at-init g c = ((walk_first _ c.requires.sound (number c.args.chain) _ c.head-at.ensures).0, omega arith, λ h. omega (arith, h), ap (block_at (ahead c.args.self.now.chains c.head-at.result)) (start c.args.place.place))
 
-pub overflow-add-passed : goal.overflow-add-passed
-overflow-add-passed g c =
+pub overflow_add-passed : goal.overflow_add-passed
+overflow_add-passed g c =
     let one = ap length (walk_some _ c.requires.sound _ c.in-Some.x c.in-Some.is c.loop-at.invariant.0) in
     let whole = ap length (walk_first _ c.requires.sound (number c.args.chain) _ c.head-at.ensures).1 in
     let most = row_most _ c.requires.sound (number c.args.chain) in
@@ -43,4 +43,4 @@ loop-at-preserved g c =
 pub returns : goal.returns
 returns g c =
     let i = c.loop-at.invariant in
-    ap found (sym (block_none (c.args.place.place - c.loop-at.passed)) ∙ ap (λ z. block_at z (c.args.place.place - c.loop-at.passed)) (sym (walk_end c.args.self.now.chains _ c.in-default.is)) ∙ i.3 ∙ ap (λ z. block_at z c.args.place.place) (walk_first _ c.requires.sound (number c.args.chain) _ c.head-at.ensures).1)
+    ap found (sym (block_none (c.args.place.place - c.loop-at.passed)) ∙ ap (λ z. block_at z (c.args.place.place - c.loop-at.passed)) (sym (walk_end c.args.self.now.chains _ c.in_default.is)) ∙ i.3 ∙ ap (λ z. block_at z c.args.place.place) (walk_first _ c.requires.sound (number c.args.chain) _ c.head-at.ensures).1)

@@ -7,8 +7,8 @@ use Rattle.chain.proofs.Moves.{top_within, free_head}
 use Rattle.chain.proofs.Walks.{found_number}
 use Rattle.pool.proofs.pool.Pool.create.Goals as goal
 
-pub offset-bounds-self-number : goal.offset-bounds-self-number
-offset-bounds-self-number g c = let h = top_within _ (loose _ c.requires.sound) in let e = free_head _ (loose _ c.requires.sound) in search rules
+pub offset_bounds-self-number : goal.offset_bounds-self-number
+offset_bounds-self-number g c = let h = top_within _ (loose _ c.requires.sound) in let e = free_head _ (loose _ c.requires.sound) in search rules
 
 pub bounds-self-number : goal.bounds-self-number
 bounds-self-number g c =

@@ -10,11 +10,11 @@ use Rattle.pool.proofs.pool.Pool.find.Goals as goal
 pub loop-at-init : goal.loop-at-init
 loop-at-init g c = ((walk_first _ c.requires.sound (number c.args.chain) _ c.head-at.ensures).0, λ d. refl)
 
-pub overflow-sub-number : goal.overflow-sub-number
-overflow-sub-number g c = let h = walk_within _ c.requires.sound _ c.in-Some.x c.in-Some.is c.loop-at.invariant.0 in omega (arith, h, c.number.ensures)
+pub overflow_sub-number : goal.overflow_sub-number
+overflow_sub-number g c = let h = walk_within _ c.requires.sound _ c.in-Some.x c.in-Some.is c.loop-at.invariant.0 in omega (arith, h, c.number.ensures)
 
-pub offset-bounds-elements-number : goal.offset-bounds-elements-number
-offset-bounds-elements-number g c = let h = walk_within _ c.requires.sound _ c.in-Some.x c.in-Some.is c.loop-at.invariant.0 in search rules
+pub offset_bounds-elements-number : goal.offset_bounds-elements-number
+offset_bounds-elements-number g c = let h = walk_within _ c.requires.sound _ c.in-Some.x c.in-Some.is c.loop-at.invariant.0 in search rules
 
 pub bounds-elements-number : goal.bounds-elements-number
 bounds-elements-number g c = let h = walk_within _ c.requires.sound _ c.in-Some.x c.in-Some.is c.loop-at.invariant.0 in omega (arith, h, c.number.ensures, c.requires.roomy)
@@ -50,5 +50,5 @@ loop-at-preserved g c =
 pub returns : goal.returns
 returns g c = λ d.
     let es = c.args.self.now.elements.now in
-    ap found (sym (ap (first_that (λ y. g.T.Sought.hit (get_or es (y - 1) d) c.args.key)) (walk_end c.args.self.now.chains _ c.in-default.is)) ∙ c.loop-at.invariant.1 d
+    ap found (sym (ap (first_that (λ y. g.T.Sought.hit (get_or es (y - 1) d) c.args.key)) (walk_end c.args.self.now.chains _ c.in_default.is)) ∙ c.loop-at.invariant.1 d
     ∙ ap (first_that (λ y. g.T.Sought.hit (get_or es (y - 1) d) c.args.key)) (walk_first _ c.requires.sound (number c.args.chain) _ c.head-at.ensures).1)

@@ -9,8 +9,8 @@ use Rattle.pool.proofs.pool.Pool.len.Goals as goal
 pub loop-at-init : goal.loop-at-init
 loop-at-init g c = ((walk_first _ c.requires.sound (number c.args.chain) _ c.head-at.ensures).0, omega arith)
 
-pub overflow-add-len : goal.overflow-add-len
-overflow-add-len g c =
+pub overflow_add-len : goal.overflow_add-len
+overflow_add-len g c =
     let one = ap length (walk_some _ c.requires.sound _ c.in-Some.x c.in-Some.is c.loop-at.invariant.0) in
     let whole = ap length (walk_first _ c.requires.sound (number c.args.chain) _ c.head-at.ensures).1 in
     let most = row_most _ c.requires.sound (number c.args.chain) in
@@ -27,4 +27,4 @@ loop-at-preserved g c =
     (w.0, omega (arith, ap length w.1, c.loop-at.invariant.1))
 
 pub returns : goal.returns
-returns g c = omega (arith, ap length (walk_end c.args.self.now.chains _ c.in-default.is), c.loop-at.invariant.1, ap length (walk_first _ c.requires.sound (number c.args.chain) _ c.head-at.ensures).1)
+returns g c = omega (arith, ap length (walk_end c.args.self.now.chains _ c.in_default.is), c.loop-at.invariant.1, ap length (walk_first _ c.requires.sound (number c.args.chain) _ c.head-at.ensures).1)

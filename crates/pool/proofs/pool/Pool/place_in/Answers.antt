@@ -12,8 +12,8 @@ use Rattle.pool.proofs.pool.Pool.place_in.Goals as goal
 pub loop-at-init : goal.loop-at-init
 loop-at-init g c = ((walk_first _ c.requires.sound (number c.args.chain) _ c.head-at.ensures).0, omega arith, refl)
 
-pub overflow-add-passed : goal.overflow-add-passed
-overflow-add-passed g c =
+pub overflow_add-passed : goal.overflow_add-passed
+overflow_add-passed g c =
     let one = ap length (walk_some _ c.requires.sound _ c.in-Some.y c.in-Some.is c.loop-at.invariant.0) in
     let whole = ap length (walk_first _ c.requires.sound (number c.args.chain) _ c.head-at.ensures).1 in
     let most = row_most _ c.requires.sound (number c.args.chain) in
@@ -45,5 +45,5 @@ pub returns : goal.returns
 returns g c =
     let i = c.loop-at.invariant in
     let x = c.number-sought.result in
-    ap sequence (sym (ap (λ z. place_from (c.loop-at.passed + 1) z x) (walk_end c.args.self.now.chains _ c.in-default.is)) ∙ i.2
+    ap sequence (sym (ap (λ z. place_from (c.loop-at.passed + 1) z x) (walk_end c.args.self.now.chains _ c.in_default.is)) ∙ i.2
     ∙ ap (λ z. place_in z x) (walk_first _ c.requires.sound (number c.args.chain) _ c.head-at.ensures).1 ∙ ap (place_in (chain_of c.args.self.now.chains (number c.args.chain))) c.number-sought.ensures)

@@ -6,11 +6,11 @@ use Rattle.chain.proofs.Seen.{loose}
 use Rattle.chain.proofs.Moves.{member_within}
 use Rattle.pool.proofs.pool.Pool.read.Goals as goal
 
-pub overflow-sub-at : goal.overflow-sub-at
-overflow-sub-at g c = let h = member_within _ _ (loose _ c.requires.sound) (ltb-true 0 _ c.requires.used) in omega (arith, c.number.ensures)
+pub overflow_sub-at : goal.overflow_sub-at
+overflow_sub-at g c = let h = member_within _ _ (loose _ c.requires.sound) (ltb-true 0 _ c.requires.used) in omega (arith, c.number.ensures)
 
-pub offset-bounds-elements-at : goal.offset-bounds-elements-at
-offset-bounds-elements-at g c = let h = member_within _ _ (loose _ c.requires.sound) (ltb-true 0 _ c.requires.used) in search rules
+pub offset_bounds-elements-at : goal.offset_bounds-elements-at
+offset_bounds-elements-at g c = let h = member_within _ _ (loose _ c.requires.sound) (ltb-true 0 _ c.requires.used) in search rules
 
 pub bounds-elements-at : goal.bounds-elements-at
 bounds-elements-at g c = let h = member_within _ _ (loose _ c.requires.sound) (ltb-true 0 _ c.requires.used) in omega (arith, c.number.ensures, c.requires.roomy)

@@ -5,11 +5,11 @@ use Rattle.chain.proofs.Seen.{loose}
 use Rattle.chain.proofs.Moves.{member_within}
 use Rattle.pool.proofs.pool.Pool.replace.Goals as goal
 
-pub overflow-sub-slot : goal.overflow-sub-slot
-overflow-sub-slot g c = let h = member_within _ _ (loose _ c.requires.sound) (ltb-true 0 _ c.requires.used) in omega (arith, c.number.ensures)
+pub overflow_sub-slot : goal.overflow_sub-slot
+overflow_sub-slot g c = let h = member_within _ _ (loose _ c.requires.sound) (ltb-true 0 _ c.requires.used) in omega (arith, c.number.ensures)
 
-pub offset-bounds-self-slot : goal.offset-bounds-self-slot
-offset-bounds-self-slot g c = let h = member_within _ _ (loose _ c.requires.sound) (ltb-true 0 _ c.requires.used) in search rules
+pub offset_bounds-self-slot : goal.offset_bounds-self-slot
+offset_bounds-self-slot g c = let h = member_within _ _ (loose _ c.requires.sound) (ltb-true 0 _ c.requires.used) in search rules
 
 pub bounds-self-slot : goal.bounds-self-slot
 bounds-self-slot g c = let h = member_within _ _ (loose _ c.requires.sound) (ltb-true 0 _ c.requires.used) in omega (arith, c.number.ensures, c.requires.roomy)
