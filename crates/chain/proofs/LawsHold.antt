@@ -1,7 +1,7 @@
 -- The laws of the model hold. Assumes nothing.
 use Rattle.chain.proofs.Found.{link_is}
 use Rattle.chain.proofs.Homes.{without_none}
-use Rattle.std.proofs.Common.{◌≡◌, ℕ, zero, suc, ◌+◌, ◌-◌, ◌≤◌, cond, List, [], ◌∷◌, ◌++◌, map, reverse, length, set, None, sym, refl, ap, ◌∙◌, inl, inr, arith, length-append}
+use Rattle.std.proofs.Common.{◌≡◌, ℕ, zero, suc, ◌+◌, ◌≤◌, cond, List, [], ◌∷◌, ◌++◌, map, reverse, length, set, None, sym, refl, ap, ◌∙◌, inl, inr, arith, length-append}
 use mathlib.Core.List.{is_set}
 use mathlib.Core.HLevel.{×_prop}
 use native.Mathlib.Nat.{ℕ_set}

@@ -1,5 +1,5 @@
 -- Chains and their numbers. Assumes nothing.
-use Rattle.std.proofs.Common.{◌≡◌, ℕ, zero, suc, ◌+◌, ◌-◌, ◌≤◌, Some, None, Option, refl, ap, ◌∙◌, arith}
+use Rattle.std.proofs.Common.{◌≡◌, ℕ, zero, suc, ◌+◌, ◌≤◌, Some, None, Option, refl, ap, ◌∙◌, arith}
 use Rattle.chain.specs.declared.link.Index.{Index}
 use Rattle.chain.specs.declared.link.Branch.TheVariants.{First, Second}
 use Rattle.chain.specs.declared.link.Chain.{Chain}

@@ -5,7 +5,7 @@ use Rattle.std.proofs.lemmas.List.{get_or-set_same, get_or-set_other}
 use Rattle.std.proofs.lemmas.Bool.{lt-ltb, le-ltb}
 use Rattle.std.proofs.lemmas.Bool.Decides.{nat_tests}
 use Rattle.chain.specs.declared.link.Link.{Link}
-use Rattle.chain.specs.Entry.{entry, link_at, ends_in, ends_at, nowhere, no_ends, number, chain_at, Within}
+use Rattle.chain.specs.Entry.{entry, link_at, ends_in, ends_at, nowhere, no_ends, chain_at, Within}
 use Rattle.chain.specs.declared.link.Branch.TheVariants.{First, Second}
 use Rattle.chain.specs.declared.link.Chain.{Chain}
 use Rattle.chain.specs.declared.link.Chain.TheVariants.{Root, Members}

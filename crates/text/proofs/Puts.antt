@@ -1,7 +1,7 @@
 -- Laws of text put into a buffer. Assumes nothing.
-use Rattle.std.proofs.Common.{◌≡◌, ℕ, zero, suc, ◌+◌, ◌-◌, ◌<◌, ◌≤◌, List, [], ◌∷◌, ◌++◌, length, get_or, take, drop, set, sym, refl, ap, ◌∙◌, subst, append_assoc, add-zero, arith, length-append, length-drop, length-set}
-use borrow.Rule.Slice.PartMut.{put_mid, post_of}
-use Rattle.std.proofs.lemmas.List.{append-nil, take-append-drop, drop_all, take_rest, drop-drop, take_more_set, drop-set-lt, take_at, drop_at, length-take-le, take_more, drop_more}
+use Rattle.std.proofs.Common.{◌≡◌, ℕ, suc, ◌+◌, ◌-◌, ◌<◌, ◌≤◌, List, [], ◌∷◌, ◌++◌, length, take, drop, set, sym, ap, ◌∙◌, append_assoc, arith, length-append, length-drop}
+use borrow.Rule.Slice.PartMut.{put_mid}
+use Rattle.std.proofs.lemmas.List.{append-nil, drop_all, take_rest, drop-drop, take_more_set, drop-set-lt, take_at, drop_at, length-take-le}
 use Rattle.text.specs.Buffer.{put}
 
 pub length-put : (o a : List ℕ) (at : ℕ) → at + length a ≤ length o → length (put o at a) ≡ length o

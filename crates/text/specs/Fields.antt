@@ -1,5 +1,5 @@
 -- What a cursor over a line has still to hand out, and what a field says. Assumes nothing.
-use Rattle.std.specs.Prelude.{◌≡◌, ℕ, ◌+◌, ◌<◌, cond, ◌||◌, List, [], length, take, drop, nat_lt}
+use Rattle.std.specs.Prelude.{◌≡◌, ℕ, ◌<◌, cond, ◌||◌, List, [], length, take, drop, nat_lt}
 use Rattle.text.specs.Cuts.{cuts}
 use Rattle.text.specs.declared.field.Field.{Field}
 use Rattle.text.specs.declared.field.Field.TheVariants.{LeftOut, Part}

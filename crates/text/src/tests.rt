@@ -64,7 +64,7 @@ fn fields(rt: HostRuntime) -> Result<(), Fail> {
     match fields.next_field() {
         Some(Field::Part { bytes, at }) => {
             assert_eq!(rt; at, 5);
-            assert!(rt; bytes == b"bc");
+            assert!(rt; bytes == b"bc".as_slice());
         }
         _ => return Err(Fail::new("left out")),
     }

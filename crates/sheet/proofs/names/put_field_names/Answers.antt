@@ -12,13 +12,13 @@ loop-field-init g c = (none_yet c.args.out.now [] c.args.at 0 (omega arith), ome
 
 pub piece-next-requires : goal.piece-next-requires
 piece-next-requires g c =
-    let few : c.field_count-count.result ≤ 20 = omega (arith, g.met.M.Make.keeps.fewFields c.args.kind, c.field_count-count.ensures.value) in
+    let few : c.field_count-count.result ≤ 20 = omega (arith, g.met.M.Make.keeps.few_fields c.args.kind, c.field_count-count.ensures.value) in
     record { room = omega (arith, few, c.requires.room, c.loop-field.invariant.1, c.loop-field.auto.out, c.loop-field-test.true, ap length c.field_name.ensures.value, name_short g.M.Make.spec c.args.kind c.loop-field.field g.met.M.Make.keeps) }
 
 pub loop-field-preserved : goal.loop-field-preserved
 loop-field-preserved g c =
     let Fs = fields_of g.M.Make.spec c.args.kind in
-    let few : c.field_count-count.result ≤ 20 = omega (arith, g.met.M.Make.keeps.fewFields c.args.kind, c.field_count-count.ensures.value) in
+    let few : c.field_count-count.result ≤ 20 = omega (arith, g.met.M.Make.keeps.few_fields c.args.kind, c.field_count-count.ensures.value) in
     let e = c.field_name.ensures.value in (
       name_on c.args.out.now c.loop-field.out c.piece-next.new.out Fs c.loop-field.field c.args.at c.loop-field.next c.piece-next.result c.field_name.result.now (omega (arith, c.loop-field-test.true, c.field_count-count.ensures.value)) e c.loop-field.invariant.0 c.piece-next.ensures.texts (omega (arith, few, c.requires.room, c.loop-field.invariant.1, c.loop-field-test.true)),
       omega (arith, c.piece-next.ensures.bound, c.loop-field.invariant.1, ap length e, name_short g.M.Make.spec c.args.kind c.loop-field.field g.met.M.Make.keeps),
@@ -27,7 +27,7 @@ loop-field-preserved g c =
 pub returns : goal.returns
 returns g c =
     let Fs = fields_of g.M.Make.spec c.args.kind in
-    let few : c.field_count-count.result ≤ 20 = omega (arith, g.met.M.Make.keeps.fewFields c.args.kind, c.field_count-count.ensures.value) in
+    let few : c.field_count-count.result ≤ 20 = omega (arith, g.met.M.Make.keeps.few_fields c.args.kind, c.field_count-count.ensures.value) in
     let P : List (List ℕ) → Type 0 = λ us. Listed c.args.out.now c.loop-field.out c.args.at c.loop-field.next us in
     record {
       bound = omega (arith, few, c.loop-field.invariant.1, c.loop-field.auto.field-end);

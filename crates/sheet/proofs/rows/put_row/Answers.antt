@@ -24,7 +24,7 @@ returns g c =
     let count = c.field_count-count.result in
     let name = decimal c.number.result in
     let here = shown (owner L x) ∷ shown (prev_in L.blocks x) ∷ shown (next_in L.blocks x) ∷ [] in
-    let few : count ≤ 20 = omega (arith, g.met.M.Make.keeps.fewFields kk, c.field_count-count.ensures.value) in
+    let few : count ≤ 20 = omega (arith, g.met.M.Make.keeps.few_fields kk, c.field_count-count.ensures.value) in
     let all : length ts ≤ count = omega (arith, g.met.M.Make.counted r, ap (λ z. length (fields_of S z)) c.kind-kind.ensures.value, c.field_count-count.ensures.value) in
     let b0 : c.put_number-started.result ≤ 5 = omega (arith, c.put_number-started.ensures.bound) in
     let b1 : c.put_places-placed.result ≤ 23 = omega (arith, b0, c.put_places-placed.ensures.bound) in
@@ -38,6 +38,6 @@ returns g c =
     let w4 = finish o c.field_pieces-filled.new.out c.put_byte.new.out name ((here ++ type_cell S kk nn) ++ take (count - 0) (drop 0 ts)) c.field_pieces-filled.result c.put_byte.result w3 c.put_byte.ensures.buffer c.put_byte.ensures.end (omega (arith, b3, c.requires.room)) in
     let m = meaning g.M.Make.kindof g.M.Make.systemtype g.M.Make.texts r in
     let read : m ≡ holding L x = c.read-record.ensures.value in
-    let types : type_cell S kk nn ≡ type_cell S m.kind m.systemType = ap (λ z. type_cell S z nn) c.kind-kind.ensures.value ∙ ap (type_cell S m.kind) c.system_type.ensures.value ∙ sym (type_cell_lem S m.kind (g.M.Make.systemtype r)) in
+    let types : type_cell S kk nn ≡ type_cell S m.kind m.system_type = ap (λ z. type_cell S z nn) c.kind-kind.ensures.value ∙ ap (type_cell S m.kind) c.system_type.ensures.value ∙ sym (type_cell_lem S m.kind (g.M.Make.systemtype r)) in
     let P : List ℕ → Type 0 = λ t. Wrote o c.put_byte.new.out c.put_byte.result t in
-    subst P (ap (reply name) (cells_joined here (type_cell S kk nn) ts count all ∙ ap (λ z. here ++ (z ++ ts)) types) ∙ ap (λ n. reply (decimal n) (here ++ (type_cell S m.kind m.systemType ++ m.texts))) c.number.ensures ∙ ap (row_for S L x) read) w4
+    subst P (ap (reply name) (cells_joined here (type_cell S kk nn) ts count all ∙ ap (λ z. here ++ (z ++ ts)) types) ∙ ap (λ n. reply (decimal n) (here ++ (type_cell S m.kind m.system_type ++ m.texts))) c.number.ensures ∙ ap (row_for S L x) read) w4

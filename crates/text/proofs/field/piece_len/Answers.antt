@@ -1,4 +1,4 @@
-use Rattle.std.proofs.Common.{◌≡◌, length, take, drop, sym, refl, ap, ◌∙◌, arith}
+use Rattle.std.proofs.Common.{◌≡◌, length, take, drop, refl, ap, ◌∙◌, arith}
 use Rattle.text.specs.Cuts.{cuts}
 use Rattle.text.proofs.Pieces.{none, more, comma, ended, before}
 use Rattle.text.proofs.field.piece_len.Goals as goal

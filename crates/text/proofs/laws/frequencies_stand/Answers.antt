@@ -1,4 +1,4 @@
-use Rattle.std.proofs.Common.{◌≡◌, ap, ◌∙◌}
+use Rattle.std.proofs.Common.{ap, ◌∙◌}
 use Rattle.text.proofs.Texts.{eight_number, value_fixed, length-fixed, band_below}
 use Rattle.text.specs.Frequency.{in_band}
 use Rattle.std.proofs.lemmas.Bool.{and_from}

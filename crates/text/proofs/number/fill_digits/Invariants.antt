@@ -1,4 +1,4 @@
-use Rattle.std.proofs.Common.{◌≡◌, ◌++◌, length, drop}
+use Rattle.std.proofs.Common.{◌≡◌, ◌++◌, drop}
 use Rattle.text.specs.Number.{fixed}
 use Rattle.text.proofs.number.fill_digits.Given as goal
 

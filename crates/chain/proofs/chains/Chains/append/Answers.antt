@@ -1,5 +1,5 @@
 -- What the search leaves to show of `append`. Assumes nothing.
-use Rattle.std.proofs.Common.{◌-◌, ◌<◌, length, sym, refl, ap, ◌∙◌, arith, length-set}
+use Rattle.std.proofs.Common.{◌<◌, length, sym, refl, ap, ◌∙◌, arith, length-set}
 use Rattle.chain.specs.Entry.{found, number, hung, ends_with, root_with}
 use Rattle.chain.specs.Rows.{head_or}
 use Rattle.chain.proofs.Numbers.{within_more}

@@ -1,5 +1,5 @@
 -- What the search leaves to show of `unlink`. Assumes nothing.
-use Rattle.std.proofs.Common.{◌-◌, refl, ap, ◌∙◌, arith}
+use Rattle.std.proofs.Common.{refl, ap, ◌∙◌, arith}
 use Rattle.chain.specs.Entry.{ends_in, link_at, hung}
 use Rattle.chain.proofs.Numbers.{within_more}
 use Rattle.chain.proofs.Moves.{member_within}

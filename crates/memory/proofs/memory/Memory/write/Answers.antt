@@ -29,7 +29,11 @@ invariant_of-self g c =
     let same = c.replace.ensures.same in
     let long : length c.replace.new.self.elements.now ≡ length m.pool.elements.now = ap length c.replace.ensures.elements ∙ simp length-set in
     let count = ap (λ (z : Chains). z.count) same in
-    (omega (arith, count, m.few), (omega (arith, count, long, m.roomy), (subst (λ (z : Chains). Sound z) (sym same) m.sound, tt)))
+    record {
+      few = omega (arith, count, m.few);
+      roomy = omega (arith, count, long, m.roomy);
+      sound = subst (λ (z : Chains). Sound z) (sym same) m.sound;
+    }
 
 pub returns : goal.returns
 unfolding store_of
@@ -48,7 +52,7 @@ returns g c =
     let u = used_bound p.chains m.sound x c.requires.living in
     let read : meaning K T X r ≡ h = held_at (meaning K T X) p.chains.count (x - 1) p.elements.now r _ (omega (arith, u)) m.roomy c.read-record.ensures in
     let legal : fields_legal S (K r) 0 ts ≡ true = ap (λ (z : Holding). fields_legal S z.kind 0 ts) read ∙ c.requires.legal in
-    let new : meaning K T X c.write_fields.new.record ≡ record { kind = h.kind; system_type = h.systemType; texts = fields_set S h.kind 0 ts h.texts } = ap (meaning K T X) c.write_fields.ensures.after ∙ means_written S K T X r (fields_written g.M.Make.written r 0 ts) ts (all S K T X g.M.Make.written g.met.M.Make.accepted g.met.M.Make.writtenkind g.met.M.Make.writtentype r 0 ts legal) h read in
+    let new : meaning K T X c.write_fields.new.record ≡ record { kind = h.kind; system_type = h.system_type; texts = fields_set S h.kind 0 ts h.texts } = ap (meaning K T X) c.write_fields.ensures.after ∙ means_written S K T X r (fields_written g.M.Make.written r 0 ts) ts (all S K T X g.M.Make.written g.met.M.Make.accepted g.met.M.Make.writtenkind g.met.M.Make.writtentype r 0 ts legal) h read in
     let count = ap (λ (z : Chains). z.count) c.replace.ensures.same in
     record {
       store = same_store _ _ _ _ (ap blocks_of c.replace.ensures.same) (ap (λ z. map (meaning K T X) (take z q.elements.now)) count ∙ held_set (meaning K T X) p.chains.count (x - 1) p.elements.now q.elements.now c.write_fields.new.record _ c.replace.ensures.elements new);
