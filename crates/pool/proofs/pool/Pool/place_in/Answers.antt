@@ -1,5 +1,5 @@
 -- What the search leaves to show of `place_in`. Assumes nothing.
-use Rattle.std.proofs.Common.{◌+◌, ◌-◌, length, sym, refl, ap, ◌∙◌, arith, rules}
+use Rattle.std.proofs.Common.{◌+◌, length, sym, refl, ap, ◌∙◌, arith, rules}
 use Rattle.chain.specs.Entry.{number}
 use Rattle.chain.specs.View.{chain_of}
 use Rattle.chain.proofs.Seen.{loose}
