@@ -1,5 +1,5 @@
 -- What a passed test tells of a line, and its write beside the line given whole. Assumes nothing.
-use Rattle.std.proofs.Common.{◌≡◌, ℕ, ◌+◌, ◌≤◌, Bool, true, false, cond, ◌&&◌, ◌||◌, eqb, ltb, ◌⊎◌, List, [], length, get_or, drop, Some, None, Option, sym, refl, ap, ◌∙◌, subst, inl, inr, arith}
+use Rattle.std.proofs.Common.{◌≡◌, ℕ, ◌+◌, Bool, true, false, cond, ◌&&◌, ◌||◌, eqb, ltb, ◌⊎◌, List, [], length, get_or, drop, Some, None, Option, sym, refl, ap, ◌∙◌, inl, inr, arith}
 use Rattle.std.proofs.lemmas.Bool.{eqb-true, eq-eqb, and_parts, and_from}
 use Rattle.make.specs.declared.kind.Kind.{Kind}
 use Rattle.make.specs.declared.kind.Kind.TheVariants.{System, Site, ChannelGroup, TalkgroupGroup, Channel, Talkgroup, TrunkFrequency}
@@ -17,8 +17,8 @@ use Rattle.ledger.specs.Ledger.{Ledger, Store, Holding, holding, living, block_c
 use Rattle.ledger.specs.Records.{kind_number, is_kind, is_for, index_in, meant, target}
 use Rattle.ledger.specs.Replies.{orer, err, ng}
 use Rattle.ledger.specs.Texts.{fields_legal}
-use Rattle.ledger.specs.Steps.{Outcome, refused, sets, read_or_set, done}
-use Rattle.ledger.specs.Lines.{Heard, refuses, does, printable, command, fields, mode_after, step, known as heard}
+use Rattle.ledger.specs.Steps.{refused, sets, read_or_set, done}
+use Rattle.ledger.specs.Lines.{refuses, does, printable, command, fields, mode_after, step, known as heard}
 use Rattle.engine.proofs.Outcomes.{set_done}
 use Rattle.apart.specs.Testing.{Verdict, fails, passes, named, counted, settable, known, test, holds, put_into, put_by, write}
 

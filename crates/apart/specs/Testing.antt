@@ -1,5 +1,5 @@
 -- A set line tested apart from its write, and the write of a tested line. Assumes nothing.
-use Rattle.std.specs.Prelude.{ℕ, ◌+◌, Bool, true, false, cond, ◌&&◌, List, [], ◌∷◌, length, drop, Some, None, Option, ◌==◌, nat_lt, slice_index_or}
+use Rattle.std.specs.Prelude.{ℕ, ◌+◌, Bool, cond, ◌&&◌, List, [], length, drop, Some, None, Option, ◌==◌, nat_lt, slice_index_or}
 use Rattle.make.specs.declared.kind.Kind.{Kind}
 use Rattle.make.specs.Data.{MakeSpec, fields_of}
 use Rattle.ledger.specs.declared.mode.Mode.{Mode}
@@ -14,7 +14,7 @@ use Rattle.ledger.specs.Records.{is_kind, target}
 use Rattle.ledger.specs.Replies.{orer, err, ng}
 use Rattle.ledger.specs.Texts.{fields_legal}
 use Rattle.ledger.specs.Steps.{Outcome, refused, sets}
-use Rattle.ledger.specs.Lines.{Heard, refuses, does, printable, command, fields}
+use Rattle.ledger.specs.Lines.{Heard, does, printable, command, fields}
 
 -- what a test finds: a refusal with its reply, or the block that the line names and the kind of the record there; the ledger stays as it is
 pub data Verdict : Type 0 where

@@ -1,5 +1,5 @@
 -- Outcomes, put one for another. Assumes nothing.
-use Rattle.std.proofs.Common.{◌≡◌, ℕ, Bool, true, false, cond, eqb, List, [], ◌∷◌, length, get_or, drop, Some, None, Option, sym, refl, ap, ◌∙◌, subst}
+use Rattle.std.proofs.Common.{◌≡◌, ℕ, true, cond, eqb, List, [], length, get_or, drop, Some, Option, sym, refl, ap, ◌∙◌, subst}
 use Rattle.std.proofs.lemmas.Bool.{ne_eqb}
 use Rattle.make.specs.declared.kind.Kind.{Kind}
 use Rattle.make.specs.Data.{MakeSpec}

@@ -2,7 +2,7 @@
 use Rattle.std.specs.Prelude.{◌≡◌, ℕ, List}
 use Rattle.make.specs.declared.kind.Kind.{Kind}
 use Rattle.pool.specs.declared.pool.Pool.{Pool}
-use Rattle.ledger.specs.Ledger.{Ledger, Store}
+use Rattle.ledger.specs.Ledger.{Ledger}
 use Rattle.ledger.specs.Steps.{Outcome}
 use Rattle.ledger.specs.Lines.{Heard}
 use Rattle.memory.specs.View.{store_of, Spared}

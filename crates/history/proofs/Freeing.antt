@@ -10,7 +10,7 @@ use Rattle.chain.proofs.Keeps.{tick_same, tick_other}
 use Rattle.chain.proofs.Counts.{occ_one}
 use Rattle.chain.proofs.Homes.{without_none}
 use Rattle.chain.proofs.Cleared.{taken_total, taken_chain}
-use Rattle.history.proofs.Removing.{minus, minus_none, occ_minus, Clear, Gone, Member, Of, same_owner, one_chain, clear_left, rest, clear_rest, out_rest, fits_rest, g, y_in, y_once, first_go, clear₀, out₀, one_less, x1, goes}
+use Rattle.history.proofs.Removing.{minus, minus_none, occ_minus, Clear, Gone, Member, Of, same_owner, one_chain, clear_left, rest, clear_rest, out_rest, fits_rest, g, y_in, y_once, first_go, clear₀, out₀, one_less, goes}
 
 -- the members of x, each in this same way, and then x
 abbrev pub order : ℕ → Blocks → ℕ → List ℕ

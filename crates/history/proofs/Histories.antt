@@ -23,9 +23,9 @@ use Rattle.ledger.specs.Ledger.{Store, Holding, fresh, emptied, holding, living,
 use Rattle.ledger.specs.Records.{kind_number, member_kind, target}
 use Rattle.ledger.specs.Texts.{fields_legal}
 use Rattle.ledger.specs.Replies.{err, reply, shown, shown_record}
-use Rattle.ledger.specs.Steps.{new_texts, Outcome, changes, done, at, says, ok, refused, grown, creates, new_system, deletes, written, sets, read_or_set}
+use Rattle.ledger.specs.Steps.{new_texts, Outcome, changes, done, at, says, refused, grown, creates, new_system, deletes, written, sets, read_or_set}
 use Rattle.ledger.specs.Lines.{command, fields}
-use Rattle.ledger.specs.Runs.{Told, short, said, told, next, after}
+use Rattle.ledger.specs.Runs.{Told, short, said}
 use Rattle.history.specs.Orderly.{Steady}
 use Rattle.history.specs.Told.{index_told}
 use Rattle.history.specs.History.{Born, owner_in, accepted, named, born_at, born_typed, born_under, kind_in, low_kind, gone, gone_at, reset, retold, retold_at, read_or_retold, lived, lived_by, heard, born_numbered, born_as, members_of, Tells}

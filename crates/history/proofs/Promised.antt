@@ -21,7 +21,7 @@ use Rattle.ledger.specs.Limits.{most_systems}
 use Rattle.ledger.specs.Commands.{command_of, takes_of, counts}
 use Rattle.ledger.specs.Ledger.{Ledger, Store, holding, living, systems, members, talkgroups}
 use Rattle.ledger.specs.Records.{is_for, member_kind, target}
-use Rattle.ledger.specs.Replies.{reply, err, shown, ends, shown_record}
+use Rattle.ledger.specs.Replies.{err, shown, ends, shown_record}
 use Rattle.ledger.specs.Steps.{Outcome, done, at, says, creates, new_system}
 use Rattle.ledger.specs.Runs.{said}
 use Rattle.history.specs.Orderly.{Steady}

@@ -20,9 +20,9 @@ use Rattle.ledger.specs.Ledger.{Store, Holding, holding, living, systems}
 use Rattle.ledger.specs.Records.{member_kind, target}
 use Rattle.ledger.specs.Texts.{fields_legal}
 use Rattle.ledger.specs.Replies.{err, reply, shown, shown_record}
-use Rattle.ledger.specs.Steps.{new_texts, Outcome, changes, done, at, says, ok, refused, grown, creates, new_system, deletes, written, sets, read_or_set}
+use Rattle.ledger.specs.Steps.{new_texts, Outcome, changes, done, at, says, refused, grown, creates, new_system, deletes, written, sets, read_or_set}
 use Rattle.ledger.specs.Lines.{command, fields}
-use Rattle.ledger.specs.Runs.{Told, short, said, told, next, after}
+use Rattle.ledger.specs.Runs.{Told, short, said}
 use Rattle.history.specs.Orderly.{Steady}
 use Rattle.history.specs.Told.{index_told}
 use Rattle.history.specs.History.{Born, owner_in, accepted, named, indexes_in, members_of}

@@ -18,14 +18,13 @@ use Rattle.chain.proofs.Seen.{length_run}
 use Rattle.ledger.specs.declared.command.Command.{Command}
 use Rattle.ledger.specs.declared.command.Command.TheVariants.{Prg, Epg, Clr, Sct, Sih, Sit, Rmb, Csy, Agc, Ast, Agt, Acc, Act, Dsy, Dgr, Dch, Fwd, Rev, Trn, Sin, Sif, Gin, Cin, Tin, Tfq}
 use Rattle.ledger.specs.Limits.{most_systems, index_digits}
-use Rattle.ledger.specs.Commands.{counts}
 use Rattle.ledger.specs.Ledger.{Store, Holding, fresh, emptied, block_count, holding, living, systems}
 use Rattle.ledger.specs.Records.{is_for, member_kind, up_to, meant, target}
 use Rattle.ledger.specs.Texts.{fields_legal, fields_set}
 use Rattle.ledger.specs.Replies.{err, shown, shown_record}
-use Rattle.ledger.specs.Steps.{new_texts, Outcome, changes, done, at, says, ok, refused, grown, creates, new_system, written, sets, read_or_set}
+use Rattle.ledger.specs.Steps.{new_texts, Outcome, changes, done, at, says, refused, grown, creates, new_system, written, sets, read_or_set}
 use Rattle.ledger.specs.Lines.{fields}
-use Rattle.ledger.specs.Runs.{Told, told, next}
+use Rattle.ledger.specs.Runs.{Told}
 use Rattle.history.specs.Orderly.{Orderly, Steady, slot}
 use Rattle.history.specs.Course.{Moved}
 use Rattle.history.proofs.Stepping.{by_move}

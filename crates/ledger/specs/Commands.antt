@@ -1,8 +1,7 @@
 -- The commands: their letters, what fields each takes, and which are taken while the mode is off. Assumes nothing.
 use Rattle.std.specs.Prelude.{ℕ, ◌+◌, Bool, true, false, cond, ◌||◌, List, [], ◌∷◌, length, Some, None, codes, Option, ◌==◌}
 use Rattle.std.specs.Str.{bytes_eq}
-use Rattle.make.specs.declared.kind.Kind.{Kind}
-use Rattle.make.specs.declared.kind.Kind.TheVariants.{System, Site, ChannelGroup, TalkgroupGroup, Channel, Talkgroup, TrunkFrequency}
+use Rattle.make.specs.declared.kind.Kind.TheVariants.{System, Site, ChannelGroup, Channel, Talkgroup, TrunkFrequency}
 use Rattle.make.specs.Data.{MakeSpec, fields_of}
 use Rattle.ledger.specs.declared.mode.Mode.{Mode}
 use Rattle.ledger.specs.declared.mode.Mode.TheVariants.{Off, On}

@@ -1,5 +1,5 @@
 -- The ledger: the account of a memory that is kept from the opening and the lines alone. Assumes nothing.
-use Rattle.std.specs.Prelude.{ℕ, zero, suc, ◌-◌, Bool, true, false, cond, ◌&&◌, List, [], ◌∷◌, length, replicate, Some, None, Option, slice_index_or}
+use Rattle.std.specs.Prelude.{ℕ, ◌-◌, Bool, List, [], length, replicate, Some, None, Option, slice_index_or}
 use Rattle.make.specs.declared.kind.Kind.{Kind}
 use Rattle.make.specs.declared.kind.Kind.TheVariants.{System, Site, ChannelGroup, TalkgroupGroup, Channel, Talkgroup, TrunkFrequency}
 use Rattle.make.specs.Data.{MakeSpec, starts_of}
@@ -7,7 +7,7 @@ use Rattle.chain.specs.declared.link.Index.{Index}
 use Rattle.chain.specs.Entry.{first_of, second_of}
 use Rattle.chain.specs.Blocks.{Blocks, chain, home_of, owner_of, is_used}
 use Rattle.ledger.specs.declared.mode.Mode.{Mode}
-use Rattle.ledger.specs.declared.mode.Mode.TheVariants.{Off, On}
+use Rattle.ledger.specs.declared.mode.Mode.TheVariants.{Off}
 
 -- a record: its kind, its type if it is a system, and the text that each field shows
 pub record Holding : Type 0 where

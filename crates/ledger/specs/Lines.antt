@@ -1,5 +1,5 @@
 -- The order of refusals: what a line gets before its command is done. Assumes nothing.
-use Rattle.std.specs.Prelude.{ℕ, ◌+◌, Bool, true, false, cond, ◌&&◌, ◌||◌, List, [], ◌∷◌, length, drop, Some, None, Option, nat_lt, slice_index_or}
+use Rattle.std.specs.Prelude.{ℕ, Bool, true, cond, ◌&&◌, List, [], ◌∷◌, length, drop, Some, None, Option, nat_lt, slice_index_or}
 use Rattle.std.specs.Int.{is_in_range}
 use Rattle.text.specs.Cuts.{cuts}
 use Rattle.make.specs.Data.{MakeSpec}

@@ -1,5 +1,5 @@
 -- Lines with their buffer lengths, one after the other. Assumes nothing.
-use Rattle.std.specs.Prelude.{ℕ, cond, List, [], ◌∷◌, length, nat_lt}
+use Rattle.std.specs.Prelude.{ℕ, cond, List, [], ◌∷◌, nat_lt}
 use Rattle.make.specs.Data.{MakeSpec}
 use Rattle.ledger.specs.Limits.{least_buffer}
 use Rattle.ledger.specs.Ledger.{Ledger}

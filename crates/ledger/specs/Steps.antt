@@ -1,11 +1,11 @@
 -- What each command does and answers, once its letters, the mode and the count of its fields are right. Assumes nothing.
-use Rattle.std.specs.Prelude.{ℕ, zero, suc, ◌+◌, ◌-◌, Bool, true, false, cond, ◌&&◌, ◌||◌, List, [], ◌∷◌, ◌++◌, length, drop, set, Some, None, codes, decimal, Option, ◌==◌, nat_le, slice_index_or, slice_set}
+use Rattle.std.specs.Prelude.{ℕ, ◌-◌, cond, List, [], ◌∷◌, length, drop, Some, None, codes, decimal, Option, ◌==◌, nat_le, slice_index_or, slice_set}
 use Rattle.make.specs.declared.kind.Kind.{Kind}
 use Rattle.make.specs.declared.kind.Kind.TheVariants.{System, Site, ChannelGroup, TalkgroupGroup}
 use Rattle.make.specs.Data.{MakeSpec, type_named}
 use Rattle.chain.specs.Entry.{first_of, second_of}
 use Rattle.chain.specs.Rows.{head_or, last_or}
-use Rattle.chain.specs.Blocks.{Blocks, created, deleted, next_in, prev_in}
+use Rattle.chain.specs.Blocks.{created, deleted, next_in, prev_in}
 use Rattle.pool.specs.Elements.{stored}
 use Rattle.ledger.specs.declared.command.Command.{Command}
 use Rattle.ledger.specs.declared.command.Command.TheVariants.{Prg, Epg, Clr, Sct, Sih, Sit, Rmb, Csy, Agc, Ast, Agt, Acc, Act, Dsy, Dgr, Dch, Fwd, Rev, Trn, Sin, Sif, Gin, Cin, Tin, Tfq}

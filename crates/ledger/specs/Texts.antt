@@ -1,5 +1,5 @@
 -- The fields of a set line: which texts are legal, and what the record shows then. Assumes nothing.
-use Rattle.std.specs.Prelude.{ℕ, ◌+◌, Bool, true, false, cond, ◌&&◌, List, [], ◌∷◌, set, slice_set}
+use Rattle.std.specs.Prelude.{ℕ, ◌+◌, Bool, true, ◌&&◌, List, [], ◌∷◌, slice_set}
 use Rattle.make.specs.declared.kind.Kind.{Kind}
 use Rattle.make.specs.Data.{MakeSpec, legal_at, standard_at}
 

@@ -1,6 +1,5 @@
 -- No number that a memory gives is above the block count. Assumes nothing.
-use Rattle.std.proofs.Common.{◌≡◌, ℕ, zero, suc, ◌+◌, ◌-◌, ◌<◌, ◌≤◌, Bool, true, false, cond, eqb, List, [], ◌∷◌, length, get_or, Some, None, Option, sym, refl, ap, ◌∙◌, subst, inl, inr, arith}
-use native.Mathlib.Nat.{ℕ_set}
+use Rattle.std.proofs.Common.{◌≡◌, ℕ, zero, suc, ◌+◌, ◌-◌, ◌≤◌, Bool, true, false, cond, eqb, List, [], ◌∷◌, length, Some, None, Option, sym, refl, ap, ◌∙◌, subst, inl, inr, arith}
 use native.Mathlib.Bridge.{le_prop}
 use mathlib.Core.HLevel.{×_prop}
 use Rattle.std.proofs.lemmas.Bool.{cases_lt, ltb-true}
@@ -9,9 +8,9 @@ use Rattle.chain.specs.declared.link.Index.{Index}
 use Rattle.chain.specs.declared.link.Branch.TheVariants.{First, Second}
 use Rattle.chain.specs.declared.link.Chain.{Chain}
 use Rattle.chain.specs.declared.link.Chain.TheVariants.{Root, Members}
-use Rattle.chain.specs.Entry.{number, chain_at, found, link_at, ends_at}
-use Rattle.chain.specs.Rows.{head_or, last_or, occ, tick}
-use Rattle.chain.specs.Blocks.{Blocks, chain, occ_all, total, home_of, owner_of, row_of, next_of, prev_from, prev_of, next_in, prev_in, is_used}
+use Rattle.chain.specs.Entry.{number, chain_at, found}
+use Rattle.chain.specs.Rows.{head_or, last_or, occ}
+use Rattle.chain.specs.Blocks.{occ_all, home_of, owner_of, row_of, next_of, prev_from, next_in, prev_in, is_used}
 use Rattle.chain.specs.View.{Sound, blocks_of, chains_of, chain_of, free_of}
 use Rattle.chain.proofs.Numbers.{Owned, at_owned, number_at}
 use Rattle.chain.proofs.Keeps.{tick_same}

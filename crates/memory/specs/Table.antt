@@ -1,5 +1,5 @@
 -- The table of records. Assumes nothing.
-use Rattle.std.specs.Prelude.{ℕ, ◌-◌, List, set, slice_index_or, slice_set}
+use Rattle.std.specs.Prelude.{ℕ, ◌-◌, List, slice_index_or, slice_set}
 use Rattle.make.specs.declared.kind.Kind.{Kind}
 use Rattle.make.specs.declared.kind.Kind.TheVariants.{System}
 use Rattle.pool.specs.Elements.{filled, stored}

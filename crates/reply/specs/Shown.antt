@@ -1,5 +1,5 @@
 -- Indexes that a reply can show. Assumes nothing.
-use Rattle.std.specs.Prelude.{◌≡◌, ℕ, ◌<◌, Option}
+use Rattle.std.specs.Prelude.{◌≡◌, ◌<◌, Option}
 use Rattle.chain.specs.declared.link.Index.{Index}
 use Rattle.chain.specs.Entry.{found}
 use Rattle.ledger.specs.Ledger.{number_of}

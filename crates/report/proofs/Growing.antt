@@ -1,5 +1,5 @@
 -- A part of the sheet, row by row. Assumes nothing.
-use Rattle.std.proofs.Common.{◌≡◌, ℕ, zero, suc, ◌+◌, ◌<◌, ◌≤◌, Bool, true, false, cond, List, [], ◌∷◌, ◌++◌, length, Some, None, decimal, Option, sym, refl, ap, ◌∙◌, subst, append_assoc, append-nil, add-one, arith, length-append}
+use Rattle.std.proofs.Common.{◌≡◌, ℕ, suc, ◌+◌, ◌<◌, Bool, true, false, cond, List, [], ◌∷◌, ◌++◌, length, Some, None, decimal, Option, sym, refl, ap, ◌∙◌, append_assoc, append-nil, add-one, arith, length-append}
 use Rattle.chain.specs.declared.link.Index.{Index}
 use Rattle.chain.specs.Entry.{found}
 use Rattle.make.specs.declared.kind.Kind.{Kind}

@@ -3,7 +3,7 @@ use Rattle.std.proofs.Common.{◌≡◌, ℕ, zero, suc, ◌+◌, ◌<◌, ◌�
 use Rattle.std.proofs.lemmas.Bool.{and_parts, leb-true}
 use Rattle.std.proofs.lemmas.List.{take_more}
 use Rattle.make.specs.declared.kind.Kind.{Kind}
-use Rattle.make.specs.Data.{MakeSpec, FieldSpec, reserve, fields_of, name_at}
+use Rattle.make.specs.Data.{MakeSpec, FieldSpec, reserve, name_at}
 use Rattle.make.specs.Shapes.{every, field_name_byte, long}
 use Rattle.make.specs.Rules.{Keeps}
 use Rattle.reply.specs.Wrote.{Listed}

@@ -1,5 +1,5 @@
 -- The sheet: its columns, its rows, and its parts. Assumes nothing.
-use Rattle.std.specs.Prelude.{ℕ, zero, suc, Bool, cond, ◌&&◌, List, [], ◌∷◌, ◌++◌, map, codes, decimal, slice_index_or}
+use Rattle.std.specs.Prelude.{ℕ, zero, suc, Bool, cond, ◌&&◌, List, [], ◌∷◌, ◌++◌, codes, decimal, slice_index_or}
 use Rattle.make.specs.declared.kind.Kind.{Kind}
 use Rattle.make.specs.declared.kind.Kind.TheVariants.{System, Site, ChannelGroup, TalkgroupGroup, Channel, Talkgroup, TrunkFrequency}
 use Rattle.make.specs.Data.{MakeSpec, FieldSpec, fields_of}

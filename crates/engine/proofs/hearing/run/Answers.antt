@@ -1,9 +1,9 @@
 -- A command of the right count, done with the mode on. The other ways out of the function need no answer here.
-use Rattle.std.proofs.Common.{◌≡◌, length, sym, ap, ◌∙◌}
+use Rattle.std.proofs.Common.{length, sym, ap, ◌∙◌}
 use Rattle.text.specs.Fields.{fields_left}
 use Rattle.ledger.specs.declared.command.Takes.{Takes}
 use Rattle.ledger.specs.Commands.{counts}
-use Rattle.ledger.specs.Ledger.{Ledger, Store}
+use Rattle.ledger.specs.Ledger.{Store}
 use Rattle.engine.specs.View.{ledger_of}
 use Rattle.engine.proofs.Outcomes.{hears_as, mode_stays, on_done}
 use Rattle.engine.proofs.hearing.run.Goals as goal

@@ -1,4 +1,4 @@
-use Rattle.std.proofs.Common.{◌≡◌, sym, ◌∙◌}
+use Rattle.std.proofs.Common.{◌∙◌}
 use Rattle.memory.specs.View.{store_of}
 use Rattle.text.specs.Fields.{fields_left}
 use Rattle.engine.proofs.Outcomes.{gives_as, set_done}

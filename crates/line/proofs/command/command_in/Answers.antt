@@ -1,8 +1,8 @@
-use Rattle.std.proofs.Common.{◌≡◌, ◌+◌, true, false, get_or, drop, sym, ap, ◌∙◌}
+use Rattle.std.proofs.Common.{◌+◌, get_or, drop, sym, ap, ◌∙◌}
 use Rattle.std.specs.Str.{bytes_eq}
 use Rattle.std.proofs.lemmas.List.{at_drop_more, at_drop_all}
 use Rattle.ledger.specs.declared.command.Command.TheVariants.{Prg}
-use Rattle.ledger.specs.Commands.{name_of, command_in}
+use Rattle.ledger.specs.Commands.{command_in}
 use Rattle.line.proofs.Reading.{command_here, command_later}
 use Rattle.line.proofs.command.command_in.Goals as goal
 

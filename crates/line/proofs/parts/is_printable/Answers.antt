@@ -1,4 +1,4 @@
-use Rattle.std.proofs.Common.{◌≡◌, ◌+◌, get_or, drop, sym, ◌∙◌, inl, inr}
+use Rattle.std.proofs.Common.{◌+◌, get_or, drop, sym, ◌∙◌, inl, inr}
 use Rattle.std.proofs.lemmas.List.{at_drop_more, at_drop_all}
 use Rattle.ledger.specs.Lines.{printable}
 use Rattle.line.proofs.Reading.{printable_more, printable_not}

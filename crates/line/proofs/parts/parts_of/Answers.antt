@@ -1,4 +1,4 @@
-use Rattle.std.proofs.Common.{◌≡◌, length, sym, ap, ◌∙◌, arith}
+use Rattle.std.proofs.Common.{length, sym, ap, ◌∙◌, arith}
 use Rattle.line.proofs.Reading.{cuts_length, cuts_none}
 use Rattle.line.proofs.parts.parts_of.Goals as goal
 

@@ -1,4 +1,4 @@
-use Rattle.std.proofs.Common.{[], ◌∷◌, get_or, arith}
+use Rattle.std.proofs.Common.{[], get_or, arith}
 use Rattle.reply.proofs.Joins.{one}
 use Rattle.reply.proofs.fields.field_piece.Goals as goal
 

@@ -1,5 +1,5 @@
-use Rattle.std.proofs.Common.{◌-◌, [], ◌∷◌, get_or, take, drop, arith}
-use Rattle.reply.proofs.Joins.{both, none_yet, field_on}
+use Rattle.std.proofs.Common.{◌-◌, drop, arith}
+use Rattle.reply.proofs.Joins.{none_yet, field_on}
 use Rattle.reply.proofs.fields.field_pieces.Goals as goal
 
 pub loop-field-init : goal.loop-field-init

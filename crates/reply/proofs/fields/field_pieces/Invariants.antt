@@ -1,4 +1,4 @@
-use Rattle.std.proofs.Common.{◌≡◌, ◌+◌, ◌-◌, ◌*◌, ◌≤◌, take, drop}
+use Rattle.std.proofs.Common.{◌+◌, ◌-◌, ◌*◌, ◌≤◌, take, drop}
 use Rattle.reply.specs.Wrote.{Listed}
 use Rattle.reply.proofs.fields.field_pieces.Given as goal
 

@@ -1,4 +1,4 @@
-use Rattle.std.proofs.Common.{◌≡◌, [], ◌∷◌, decimal, sym, subst, arith}
+use Rattle.std.proofs.Common.{[], ◌∷◌, decimal, sym, subst, arith}
 use Rattle.ledger.specs.Replies.{shown}
 use Rattle.reply.specs.declared.links.Links.{Links}
 use Rattle.ledger.specs.Ledger.{number_of}

@@ -1,4 +1,4 @@
-use Rattle.std.proofs.Common.{[], ◌∷◌, arith}
+use Rattle.std.proofs.Common.{arith}
 use Rattle.ledger.specs.Replies.{shown}
 use Rattle.ledger.specs.Ledger.{number_of}
 use Rattle.reply.proofs.Joins.{one}

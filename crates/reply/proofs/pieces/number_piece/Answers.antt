@@ -1,4 +1,4 @@
-use Rattle.std.proofs.Common.{[], ◌∷◌, decimal, arith}
+use Rattle.std.proofs.Common.{decimal, arith}
 use Rattle.reply.proofs.Joins.{one}
 use Rattle.reply.proofs.pieces.number_piece.Goals as goal
 

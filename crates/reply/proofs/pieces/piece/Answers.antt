@@ -1,4 +1,4 @@
-use Rattle.std.proofs.Common.{[], ◌∷◌, arith}
+use Rattle.std.proofs.Common.{arith}
 use Rattle.reply.proofs.Joins.{one}
 use Rattle.reply.proofs.pieces.piece.Goals as goal
 

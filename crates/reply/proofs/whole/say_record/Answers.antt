@@ -1,7 +1,7 @@
-use Rattle.std.proofs.Common.{◌≡◌, ℕ, ◌+◌, ◌-◌, ◌≤◌, List, [], ◌∷◌, ◌++◌, length, take, drop, sym, refl, ap, ◌∙◌, subst, arith}
+use Rattle.std.proofs.Common.{◌≡◌, ℕ, ◌-◌, ◌≤◌, List, [], ◌++◌, length, take, drop, ap, ◌∙◌, subst, arith}
 use Rattle.make.specs.Data.{first_of, fields_of}
 use Rattle.ledger.specs.Commands.{name_of}
-use Rattle.ledger.specs.Replies.{lead, listed, reply}
+use Rattle.ledger.specs.Replies.{lead, reply}
 use Rattle.reply.specs.Linked.{pieces_of}
 use Rattle.reply.specs.Wrote.{Wrote}
 use Rattle.reply.proofs.Joins.{begin, going, finish, parts_joined}

@@ -1,4 +1,4 @@
-use Rattle.std.proofs.Common.{◌≡◌, ℕ, ◌-◌, List, ◌++◌, take, IfOk, vec_items, sym, ap, ◌∙◌, subst, arith}
+use Rattle.std.proofs.Common.{◌≡◌, ℕ, ◌-◌, List, ◌++◌, take, IfOk, vec_items, ap, ◌∙◌, subst, arith}
 use Rattle.ledger.specs.Lines.{step}
 use Rattle.engine.specs.View.{ledger_of}
 use Rattle.report.proofs.lines.answer_cut.Goals as goal

@@ -1,7 +1,7 @@
-use Rattle.std.proofs.Common.{◌≡◌, ℕ, ◌+◌, ◌-◌, ◌≤◌, List, [], ◌∷◌, ◌++◌, length, take, drop, vec_items, sym, ap, ◌∙◌, subst, arith, length-drop}
+use Rattle.std.proofs.Common.{◌≡◌, ◌+◌, ◌-◌, [], ◌∷◌, length, take, drop, vec_items, sym, ap, ◌∙◌, arith, length-drop}
 use Rattle.std.proofs.lemmas.List.{take_rest}
 use Rattle.engine.specs.View.{ledger_of}
-use Rattle.report.specs.Report.{lines_from, replies, behind}
+use Rattle.report.specs.Report.{lines_from}
 use Rattle.report.proofs.Saying.{line_said}
 use Rattle.report.proofs.lines.answer_lines.Goals as goal
 

@@ -1,4 +1,4 @@
-use Rattle.std.proofs.Common.{◌≡◌, sym, ◌∙◌}
+use Rattle.std.proofs.Common.{sym, ◌∙◌}
 use Rattle.ledger.specs.Lines.{step}
 use Rattle.engine.specs.View.{ledger_of}
 use Rattle.report.proofs.Saying.{reply_said, not_short, next_of_lem}

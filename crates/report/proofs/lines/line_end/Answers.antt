@@ -1,4 +1,4 @@
-use Rattle.std.proofs.Common.{◌≡◌, sym, ◌∙◌, arith}
+use Rattle.std.proofs.Common.{sym, ◌∙◌, arith}
 use Rattle.report.proofs.Cutting.{line_more, line_end, no_line}
 use Rattle.report.proofs.lines.line_end.Goals as goal
 

@@ -1,6 +1,6 @@
-use Rattle.std.proofs.Common.{◌≡◌, ℕ, ◌+◌, cond, List, [], ◌++◌, vec_items, sym, ap, ◌∙◌}
+use Rattle.std.proofs.Common.{◌≡◌, ◌+◌, cond, [], ◌++◌, vec_items, sym, ap, ◌∙◌}
 use Rattle.memory.specs.View.{store_of}
-use Rattle.sheet.specs.Sheet.{names, row, is_row, headed, rows_to}
+use Rattle.sheet.specs.Sheet.{names, row, is_row, headed}
 use Rattle.report.proofs.Growing.{some, row_more, row_none}
 use Rattle.report.proofs.parts.add_part.Goals as goal
 use Rattle.report.proofs.parts.add_part.Goals.{then-is_row+in_ok-add_named_row, else-is_row}

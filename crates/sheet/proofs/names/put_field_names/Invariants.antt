@@ -1,4 +1,4 @@
-use Rattle.std.proofs.Common.{◌≡◌, ◌+◌, ◌*◌, ◌≤◌, take}
+use Rattle.std.proofs.Common.{◌+◌, ◌*◌, ◌≤◌, take}
 use Rattle.make.specs.Data.{fields_of}
 use Rattle.reply.specs.Wrote.{Listed}
 use Rattle.sheet.specs.Sheet.{names_in}

@@ -1,4 +1,4 @@
-use Rattle.std.proofs.Common.{◌≡◌, ℕ, ◌≤◌, List, [], ◌∷◌, ◌++◌, length, codes, refl, ap, ◌∙◌, subst, append_assoc, arith}
+use Rattle.std.proofs.Common.{ℕ, ◌≤◌, List, [], ◌∷◌, ◌++◌, codes, ap, subst, append_assoc, arith}
 use Rattle.make.specs.Data.{fields_of}
 use Rattle.ledger.specs.Replies.{listed, reply}
 use Rattle.reply.specs.Wrote.{Wrote}

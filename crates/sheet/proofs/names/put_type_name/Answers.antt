@@ -1,4 +1,4 @@
-use Rattle.std.proofs.Common.{◌≡◌, List, [], ◌∷◌, sym, ap, ◌∙◌, subst, ⊎_elim, arith}
+use Rattle.std.proofs.Common.{◌≡◌, [], sym, subst, ⊎_elim, arith}
 use Rattle.make.specs.declared.kind.Kind.{Kind}
 use Rattle.reply.specs.Wrote.{Listed}
 use Rattle.reply.proofs.Joins.{none_yet}

@@ -1,5 +1,5 @@
-use Rattle.std.proofs.Common.{◌≡◌, ℕ, List, [], ◌∷◌, ◌++◌, ap, ◌∙◌, subst, arith}
-use Rattle.chain.specs.Blocks.{next_in, prev_in}
+use Rattle.std.proofs.Common.{ℕ, [], ◌∷◌, subst, arith}
+use Rattle.chain.specs.Blocks.{prev_in}
 use Rattle.ledger.specs.Ledger.{number_of, owner}
 use Rattle.ledger.specs.Replies.{shown}
 use Rattle.memory.specs.View.{store_of}

@@ -1,7 +1,7 @@
-use Rattle.std.proofs.Common.{◌≡◌, ℕ, ◌+◌, ◌-◌, ◌≤◌, List, [], ◌∷◌, ◌++◌, length, take, drop, decimal, sym, refl, ap, ◌∙◌, subst, arith}
+use Rattle.std.proofs.Common.{◌≡◌, ℕ, ◌-◌, ◌≤◌, List, [], ◌∷◌, ◌++◌, length, take, drop, decimal, sym, ap, ◌∙◌, subst, arith}
 use Rattle.make.specs.Data.{fields_of}
 use Rattle.chain.specs.Blocks.{next_in, prev_in}
-use Rattle.ledger.specs.Ledger.{Holding, holding, owner, type_for}
+use Rattle.ledger.specs.Ledger.{holding, owner}
 use Rattle.ledger.specs.Replies.{shown, reply}
 use Rattle.memory.specs.View.{store_of, meaning}
 use Rattle.reply.specs.Wrote.{Wrote}

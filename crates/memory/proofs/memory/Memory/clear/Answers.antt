@@ -1,15 +1,10 @@
-use Rattle.std.proofs.Common.{◌≡◌, ℕ, ◌-◌, ◌<◌, ◌≤◌, List, map, length, take, drop, set, replicate, sym, refl, ap, ◌∙◌, subst, arith}
-use Rattle.chain.specs.Entry.{number}
-use Rattle.chain.specs.Rows.{head_or}
-use Rattle.chain.specs.View.{blocks_of, free_of}
-use Rattle.make.specs.declared.kind.Kind.{Kind}
+use Rattle.std.proofs.Common.{◌≡◌, map, take, replicate, sym, ap, ◌∙◌}
 use Rattle.make.specs.declared.kind.Kind.TheVariants.{System}
 use Rattle.make.specs.Data.{starts_of}
 use Rattle.pool.specs.Elements.{filled}
-use Rattle.ledger.specs.Ledger.{Store, Holding, fresh, type_for}
+use Rattle.ledger.specs.Ledger.{fresh}
 use Rattle.memory.specs.View.{store_of, meaning}
-use Rattle.ledger.specs.Ledger.{emptied, block_count}
-use Rattle.chain.specs.Blocks.{opened}
+use Rattle.ledger.specs.Ledger.{emptied}
 use Rattle.memory.proofs.Holdings.{held_filled, held_length, drop-filled}
 use Rattle.memory.proofs.Stores.{same_store, means}
 use Rattle.memory.proofs.memory.Memory.clear.Goals as goal

@@ -1,8 +1,8 @@
-use Rattle.std.proofs.Common.{◌≡◌, ℕ, ◌-◌, ◌<◌, ◌≤◌, min, List, map, length, take, drop, set, replicate, sym, refl, ap, ◌∙◌, subst, arith}
+use Rattle.std.proofs.Common.{◌≡◌, min, map, length, take, replicate, ap, ◌∙◌}
 use Rattle.make.specs.declared.kind.Kind.TheVariants.{System}
 use Rattle.make.specs.Data.{starts_of}
 use Rattle.pool.specs.Elements.{filled}
-use Rattle.ledger.specs.Ledger.{Store, Holding, fresh, emptied, type_for}
+use Rattle.ledger.specs.Ledger.{fresh, emptied}
 use Rattle.memory.specs.View.{store_of, meaning}
 use Rattle.memory.proofs.Holdings.{held_filled}
 use Rattle.memory.proofs.Stores.{same_store, means}

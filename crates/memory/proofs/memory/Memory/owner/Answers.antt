@@ -1,4 +1,4 @@
-use Rattle.std.proofs.Common.{ap, arith}
+use Rattle.std.proofs.Common.{ap}
 use Rattle.ledger.specs.Ledger.{number_of}
 use Rattle.memory.specs.View.{store_of}
 use Rattle.memory.proofs.Bounds.{owner_proper}

@@ -1,4 +1,4 @@
-use Rattle.std.proofs.Common.{◌≡◌, sym, ◌∙◌, arith}
+use Rattle.std.proofs.Common.{sym, ◌∙◌, arith}
 use Rattle.memory.specs.View.{store_of}
 use Rattle.memory.proofs.Bounds.{place_bound, some_place, no_place}
 use Rattle.memory.proofs.memory.Memory.place.Goals as goal

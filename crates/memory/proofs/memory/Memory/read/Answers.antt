@@ -1,12 +1,4 @@
-use Rattle.std.proofs.Common.{◌≡◌, ℕ, ◌-◌, ◌<◌, ◌≤◌, List, map, length, take, drop, set, sym, refl, ap, ◌∙◌, subst, arith}
-use Rattle.chain.specs.Entry.{number}
-use Rattle.chain.specs.Rows.{head_or}
-use Rattle.chain.specs.View.{blocks_of, free_of}
-use Rattle.make.specs.declared.kind.Kind.{Kind}
-use Rattle.make.specs.declared.kind.Kind.TheVariants.{System}
-use Rattle.make.specs.Data.{starts_of}
-use Rattle.pool.specs.Elements.{stored}
-use Rattle.ledger.specs.Ledger.{Store, Holding, fresh, type_for}
+use Rattle.std.proofs.Common.{◌-◌, arith}
 use Rattle.memory.specs.View.{store_of, meaning}
 use Rattle.memory.proofs.Holdings.{held_at}
 use Rattle.memory.proofs.Bounds.{used_bound}

@@ -1,11 +1,10 @@
-use Rattle.std.proofs.Common.{◌≡◌, ℕ, ◌-◌, ◌<◌, ◌≤◌, true, List, map, length, take, drop, set, sym, refl, ap, ◌∙◌, subst, arith, length-set}
+use Rattle.std.proofs.Common.{◌≡◌, ◌-◌, true, map, length, take, drop, set, sym, ap, ◌∙◌, subst, arith, length-set}
 use Rattle.std.proofs.lemmas.List.{drop-set-lt}
-use Rattle.make.specs.declared.kind.Kind.{Kind}
 use Rattle.make.specs.declared.kind.Kind.TheVariants.{System}
 use Rattle.chain.specs.declared.chains.Chains.{Chains}
 use Rattle.chain.specs.View.{Sound, blocks_of}
 use Rattle.text.specs.Fields.{fields_left}
-use Rattle.ledger.specs.Ledger.{Store, Holding, holding, type_for}
+use Rattle.ledger.specs.Ledger.{Holding, holding}
 use Rattle.ledger.specs.Texts.{fields_legal, fields_set}
 use Rattle.line.specs.Written.{fields_written}
 use Rattle.memory.specs.View.{store_of, meaning}
