@@ -6,9 +6,7 @@ ghost use Rattle.sorts.specs.Sorts.{legal_in};
 ghost use Rattle.bc346xt.specs.Table.{plan, bc346xt};
 ghost use Rattle.bc346xt.specs.Records.{kind_of, type_of, texts_of, made_record, written_record};
 ghost use Rattle.sorts.proofs.PlanLaws.{plan_keeps};
-ghost use Rattle.bc346xt.specs.RecordLaws.{made_texts};
 ghost use Rattle.bc346xt.specs.RecordLaws;
-ghost use Rattle.std.proofs.Common.{rules};
 
 use crate::channel::ChannelSettings;
 use crate::record::{Record, Settings};
@@ -72,21 +70,21 @@ impl Make for Bc346xt {
 
     ghost keeps = { plan_keeps plan refl };
 
-    ghost counted = { Prim.search rules };
+    ghost counted = { RecordLaws.counted };
 
-    ghost madekind = { Prim.search rules };
+    ghost madekind = { RecordLaws.made_kind };
 
-    ghost madetype = { Prim.search rules };
+    ghost madetype = { RecordLaws.made_type };
 
-    ghost madetexts = { made_texts };
+    ghost madetexts = { RecordLaws.made_texts };
 
     ghost accepted = { RecordLaws.accepted };
 
     ghost refused = { RecordLaws.refused };
 
-    ghost writtenkind = { Prim.search rules };
+    ghost writtenkind = { RecordLaws.written_kind };
 
-    ghost writtentype = { Prim.search rules };
+    ghost writtentype = { RecordLaws.written_type };
 
     fn block_maximum() -> usize {
         BLOCK_MAXIMUM

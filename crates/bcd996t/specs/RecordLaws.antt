@@ -4,7 +4,7 @@ use Rattle.std.proofs.Common.{sym, ap, ◌∙◌}
 use Rattle.std.specs.Fmt.{digits}
 use Rattle.make.specs.declared.kind.Kind.{Kind}
 use Rattle.make.specs.declared.kind.Kind.TheVariants.{System as SystemKind, Site as SiteKind, ChannelGroup as ChannelGroupKind, TalkgroupGroup as TalkgroupGroupKind, Channel as ChannelKind, Talkgroup as TalkgroupKind, TrunkFrequency as TrunkFrequencyKind}
-use Rattle.make.specs.Data.{legal_at, standard_at, starts_of}
+use Rattle.make.specs.Data.{legal_at, standard_at, starts_of, fields_of}
 use Rattle.sorts.specs.declared.sort.StartingName.TheVariants.{System as SystemName, Site as SiteName, Group as GroupName, Channel as ChannelName, Talkgroup as TalkgroupName}
 use Rattle.sorts.specs.Sorts.{legal_in, standard_in}
 use Rattle.sorts.specs.Plans.{sort_at}
@@ -23,7 +23,7 @@ use Rattle.bcd996t.specs.System.{system_rows, system_texts, system_puts}
 use Rattle.bcd996t.specs.Channel.{channel_rows, channel_texts, channel_puts}
 use Rattle.bcd996t.specs.Talkgroup.{talkgroup_rows, talkgroup_texts, talkgroup_puts}
 use Rattle.bcd996t.specs.Table.{plan, bcd996t}
-use Rattle.bcd996t.specs.Records.{kind_in, texts_with, texts_of, kind_of, record_of, made_record, written_record}
+use Rattle.bcd996t.specs.Records.{kind_in, texts_with, texts_of, kind_of, record_of, made_record, written_record, type_in, type_of}
 
 -- a new record shows the starting texts
 pub made_texts : (k : Kind) (n : ℕ) → texts_of (made_record k n) ≡ starts_of bcd996t k
@@ -76,3 +76,68 @@ accepted r f t h =
 
 pub refused : (r : Record) (f : ℕ) (t : List ℕ) → legal_at bcd996t (kind_of r) f t ≡ false → written_record r f t ≡ r
 refused r f t h = kept r.name r.name_len r.settings f t (sym (legal_at_lem plan (kind_of r) f t) ∙ h)
+
+-- a record shows one text for each field of its kind
+counted_with : (name : List ℕ) (s : Settings) → length (texts_with name s) ≡ length (fields_of bcd996t (kind_in s))
+counted_with name (System n s) = refl
+counted_with name (Site s) = refl
+counted_with name (ChannelGroup s) = refl
+counted_with name (TalkgroupGroup s) = refl
+counted_with name (Channel s) = refl
+counted_with name (Talkgroup s) = refl
+counted_with name (TrunkFrequency s) = refl
+
+pub counted : (r : Record) → length (texts_of r) ≡ length (fields_of bcd996t (kind_of r))
+counted r = counted_with (held_name r.name r.name_len) r.settings
+
+-- a new record has the kind and the type that it was made with
+pub made_kind : (k : Kind) (n : ℕ) → kind_of (made_record k n) ≡ k
+made_kind SystemKind n = refl
+made_kind SiteKind n = refl
+made_kind ChannelGroupKind n = refl
+made_kind TalkgroupGroupKind n = refl
+made_kind ChannelKind n = refl
+made_kind TalkgroupKind n = refl
+made_kind TrunkFrequencyKind n = refl
+
+pub made_type : (n : ℕ) → type_of (made_record SystemKind n) ≡ n
+made_type n = refl
+
+-- no text changes the kind or the type
+kind_kept : (name : List ℕ) (len : ℕ) (s : Settings) (f : ℕ) (t : List ℕ) → kind_of (written_record (record_of name len s) f t) ≡ kind_in s
+kind_kept name len (System n s) zero t = refl
+kind_kept name len (System n s) (suc f) t = refl
+kind_kept name len (Site s) zero t = refl
+kind_kept name len (Site s) (suc f) t = refl
+kind_kept name len (ChannelGroup s) zero t = refl
+kind_kept name len (ChannelGroup s) (suc f) t = refl
+kind_kept name len (TalkgroupGroup s) zero t = refl
+kind_kept name len (TalkgroupGroup s) (suc f) t = refl
+kind_kept name len (Channel s) zero t = refl
+kind_kept name len (Channel s) (suc f) t = refl
+kind_kept name len (Talkgroup s) zero t = refl
+kind_kept name len (Talkgroup s) (suc f) t = refl
+kind_kept name len (TrunkFrequency s) zero t = refl
+kind_kept name len (TrunkFrequency s) (suc f) t = refl
+
+pub written_kind : (r : Record) (f : ℕ) (t : List ℕ) → kind_of (written_record r f t) ≡ kind_of r
+written_kind r f t = kind_kept r.name r.name_len r.settings f t
+
+type_kept : (name : List ℕ) (len : ℕ) (s : Settings) (f : ℕ) (t : List ℕ) → type_of (written_record (record_of name len s) f t) ≡ type_in s
+type_kept name len (System n s) zero t = refl
+type_kept name len (System n s) (suc f) t = refl
+type_kept name len (Site s) zero t = refl
+type_kept name len (Site s) (suc f) t = refl
+type_kept name len (ChannelGroup s) zero t = refl
+type_kept name len (ChannelGroup s) (suc f) t = refl
+type_kept name len (TalkgroupGroup s) zero t = refl
+type_kept name len (TalkgroupGroup s) (suc f) t = refl
+type_kept name len (Channel s) zero t = refl
+type_kept name len (Channel s) (suc f) t = refl
+type_kept name len (Talkgroup s) zero t = refl
+type_kept name len (Talkgroup s) (suc f) t = refl
+type_kept name len (TrunkFrequency s) zero t = refl
+type_kept name len (TrunkFrequency s) (suc f) t = refl
+
+pub written_type : (r : Record) (f : ℕ) (t : List ℕ) → type_of (written_record r f t) ≡ type_of r
+written_type r f t = type_kept r.name r.name_len r.settings f t

@@ -6,9 +6,7 @@ ghost use Rattle.sorts.specs.Sorts.{legal_in};
 ghost use Rattle.bcd996t.specs.Table.{plan, bcd996t};
 ghost use Rattle.bcd996t.specs.Records.{kind_of, type_of, texts_of, made_record, written_record};
 ghost use Rattle.sorts.proofs.PlanLaws.{plan_keeps};
-ghost use Rattle.bcd996t.specs.RecordLaws.{made_texts};
 ghost use Rattle.bcd996t.specs.RecordLaws;
-ghost use Rattle.std.proofs.Common.{rules};
 
 use crate::channel::ChannelSettings;
 use crate::record::{Record, Settings};
@@ -72,21 +70,21 @@ impl Make for Bcd996t {
 
     ghost keeps = { plan_keeps plan refl };
 
-    ghost counted = { Prim.search rules };
+    ghost counted = { RecordLaws.counted };
 
-    ghost madekind = { Prim.search rules };
+    ghost madekind = { RecordLaws.made_kind };
 
-    ghost madetype = { Prim.search rules };
+    ghost madetype = { RecordLaws.made_type };
 
-    ghost madetexts = { made_texts };
+    ghost madetexts = { RecordLaws.made_texts };
 
     ghost accepted = { RecordLaws.accepted };
 
     ghost refused = { RecordLaws.refused };
 
-    ghost writtenkind = { Prim.search rules };
+    ghost writtenkind = { RecordLaws.written_kind };
 
-    ghost writtentype = { Prim.search rules };
+    ghost writtentype = { RecordLaws.written_type };
 
     fn block_maximum() -> usize {
         BLOCK_MAXIMUM
