@@ -2,7 +2,7 @@
 ghost use Rattle.std.specs.Prelude.{◌≡◌, ◌<◌, ◌≤◌, true, length};
 ghost use Rattle.chain.specs.Entry.{number};
 ghost use Rattle.chain.specs.Rows.{head_or, last_or};
-ghost use Rattle.chain.specs.Blocks.{Living, next_in, prev_in, chain as chainIn};
+ghost use Rattle.chain.specs.Blocks.{Living, next_in, prev_in, chain as chain_in};
 ghost use Rattle.ledger.specs.Ledger.{number_of, block_count, holding, living, owner, systems};
 ghost use Rattle.ledger.specs.Replies.{sequence};
 ghost use Rattle.memory.specs.View.{store_of, meaning};
@@ -71,7 +71,7 @@ impl<'a, M: Make> Memory<'a, M> {
     // The oldest record of a chain, which is that of the systems or whose owner is living.
     pub fn head(&self, chain: Chain) -> Option<Index>
         requires living { Living (store_of M.Make.kindof M.Make.systemtype M.Make.texts self.now.pool).blocks chain }
-        ensures value { number_of result ≡ head_or 0 (chainIn (store_of M.Make.kindof M.Make.systemtype M.Make.texts self.now.pool).blocks (number chain)) }
+        ensures value { number_of result ≡ head_or 0 (chain_in (store_of M.Make.kindof M.Make.systemtype M.Make.texts self.now.pool).blocks (number chain)) }
         ensures proper { Proper result }
     {
         self.pool.head(chain)
@@ -80,7 +80,7 @@ impl<'a, M: Make> Memory<'a, M> {
     // The newest record of a chain, which is that of the systems or whose owner is living.
     pub fn tail(&self, chain: Chain) -> Option<Index>
         requires living { Living (store_of M.Make.kindof M.Make.systemtype M.Make.texts self.now.pool).blocks chain }
-        ensures value { number_of result ≡ last_or 0 (chainIn (store_of M.Make.kindof M.Make.systemtype M.Make.texts self.now.pool).blocks (number chain)) }
+        ensures value { number_of result ≡ last_or 0 (chain_in (store_of M.Make.kindof M.Make.systemtype M.Make.texts self.now.pool).blocks (number chain)) }
         ensures proper { Proper result }
     {
         self.pool.tail(chain)
