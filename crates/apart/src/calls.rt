@@ -25,8 +25,8 @@ pub fn test<'a, M: Make>(
     untested: UntestedLine<'a>,
     out: &mut [u8],
 ) -> Tested<'a>
-    ensures answer { told_of result ≡ tested_of (length out.old) untested.entry.line.now (judged M.Make.spec (ledger_of M.Make.kindof M.Make.systemtype M.Make.texts session.now memory.now.pool) untested.entry.line.now) }
-    ensures buffer { out.new ≡ buffer_after out.old (judged M.Make.spec (ledger_of M.Make.kindof M.Make.systemtype M.Make.texts session.now memory.now.pool) untested.entry.line.now) }
+    ensures answer { told_of result ≡ tested_of (length out.old) untested.entry.line.now (judged M.Make.spec (ledger_of M.Make session.now memory.now.pool) untested.entry.line.now) }
+    ensures buffer { out.new ≡ buffer_after out.old (judged M.Make.spec (ledger_of M.Make session.now memory.now.pool) untested.entry.line.now) }
 {
     if out.len() < LEAST_BUFFER {
         return Tested::ShortBuffer;
@@ -49,10 +49,10 @@ fn answer<M: Make>(
     tested: TestedLine<'_>,
     out: &mut [u8],
 ) -> Answer
-    ensures answer { result ≡ answer_of out.old (wrote M.Make.spec (ledger_of M.Make.kindof M.Make.systemtype M.Make.texts session.old memory.old.pool) (passed_of tested.entry)).said }
-    ensures buffer { out.new ≡ buffer_of out.old (wrote M.Make.spec (ledger_of M.Make.kindof M.Make.systemtype M.Make.texts session.old memory.old.pool) (passed_of tested.entry)).said }
-    ensures ledger { ledger_of M.Make.kindof M.Make.systemtype M.Make.texts session.new memory.new.pool ≡ next_of out.old (ledger_of M.Make.kindof M.Make.systemtype M.Make.texts session.old memory.old.pool) (wrote M.Make.spec (ledger_of M.Make.kindof M.Make.systemtype M.Make.texts session.old memory.old.pool) (passed_of tested.entry)).next }
-    ensures records { memory.new.pool.elements.now ≡ changed M.Make.made M.Make.written memory.old.pool.chains.count (change_of out.old (wrote M.Make.spec (ledger_of M.Make.kindof M.Make.systemtype M.Make.texts session.old memory.old.pool) (passed_of tested.entry)).change) memory.old.pool.elements.now }
+    ensures answer { result ≡ answer_of out.old (wrote M.Make.spec (ledger_of M.Make session.old memory.old.pool) (passed_of tested.entry)).said }
+    ensures buffer { out.new ≡ buffer_of out.old (wrote M.Make.spec (ledger_of M.Make session.old memory.old.pool) (passed_of tested.entry)).said }
+    ensures ledger { ledger_of M.Make session.new memory.new.pool ≡ next_of out.old (ledger_of M.Make session.old memory.old.pool) (wrote M.Make.spec (ledger_of M.Make session.old memory.old.pool) (passed_of tested.entry)).next }
+    ensures records { memory.new.pool.elements.now ≡ changed M.Make memory.old.pool.chains.count (change_of out.old (wrote M.Make.spec (ledger_of M.Make session.old memory.old.pool) (passed_of tested.entry)).change) memory.old.pool.elements.now }
     ensures spared { Spared memory.old.pool memory.new.pool }
 {
     if out.len() < LEAST_BUFFER {
@@ -68,11 +68,11 @@ pub fn write<M: Make>(
     tested: TestedLine<'_>,
     out: &mut [u8],
 ) -> Answer
-    ensures answer { result ≡ answer_of out.old (wrote M.Make.spec (ledger_of M.Make.kindof M.Make.systemtype M.Make.texts session.old memory.old.pool) (passed_of tested.entry)).said }
-    ensures buffer { out.new ≡ buffer_of out.old (wrote M.Make.spec (ledger_of M.Make.kindof M.Make.systemtype M.Make.texts session.old memory.old.pool) (passed_of tested.entry)).said }
-    ensures ledger { ledger_of M.Make.kindof M.Make.systemtype M.Make.texts session.new memory.new.pool ≡ next_of out.old (ledger_of M.Make.kindof M.Make.systemtype M.Make.texts session.old memory.old.pool) (wrote M.Make.spec (ledger_of M.Make.kindof M.Make.systemtype M.Make.texts session.old memory.old.pool) (passed_of tested.entry)).next }
+    ensures answer { result ≡ answer_of out.old (wrote M.Make.spec (ledger_of M.Make session.old memory.old.pool) (passed_of tested.entry)).said }
+    ensures buffer { out.new ≡ buffer_of out.old (wrote M.Make.spec (ledger_of M.Make session.old memory.old.pool) (passed_of tested.entry)).said }
+    ensures ledger { ledger_of M.Make session.new memory.new.pool ≡ next_of out.old (ledger_of M.Make session.old memory.old.pool) (wrote M.Make.spec (ledger_of M.Make session.old memory.old.pool) (passed_of tested.entry)).next }
     ensures links { (i : ℕ) → 1 ≤ i → i ≤ memory.new.pool.chains.count → slice_index_or memory.new.pool.chains.links.now (i - 1) nowhere ≡ link_of (blocks_of memory.new.pool.chains) i }
-    ensures records { memory.new.pool.elements.now ≡ changed M.Make.made M.Make.written memory.old.pool.chains.count (change_of out.old (wrote M.Make.spec (ledger_of M.Make.kindof M.Make.systemtype M.Make.texts session.old memory.old.pool) (passed_of tested.entry)).change) memory.old.pool.elements.now }
+    ensures records { memory.new.pool.elements.now ≡ changed M.Make memory.old.pool.chains.count (change_of out.old (wrote M.Make.spec (ledger_of M.Make session.old memory.old.pool) (passed_of tested.entry)).change) memory.old.pool.elements.now }
     ensures spared { Spared memory.old.pool memory.new.pool }
 {
     answer(memory, session, tested, out)

@@ -55,7 +55,7 @@ fn judge_fields<M: Make>(
     fields: Fields<'_>,
 ) -> Result<Found, Refusal>
     requires count { count ≡ length (fields_left fields) }
-    ensures value { verdict_of result ≡ named M.Make.spec (store_of M.Make.kindof M.Make.systemtype M.Make.texts memory.now.pool) (target (store_of M.Make.kindof M.Make.systemtype M.Make.texts memory.now.pool) command (slice_index_or (fields_left fields.entry) 0 [])) (drop 1 (fields_left fields.entry)) }
+    ensures value { verdict_of result ≡ named M.Make.spec (store_of M.Make memory.now.pool) (target (store_of M.Make memory.now.pool) command (slice_index_or (fields_left fields.entry) 0 [])) (drop 1 (fields_left fields.entry)) }
 {
     let mut rest = fields;
     let text = next_bytes(&mut rest);
@@ -82,7 +82,7 @@ fn judge_count<M: Make>(
     fields: Fields<'_>,
 ) -> Result<Found, Refusal>
     requires count { count ≡ length (fields_left fields) }
-    ensures value { verdict_of result ≡ counted M.Make.spec (store_of M.Make.kindof M.Make.systemtype M.Make.texts memory.now.pool) command kind (fields_left fields.entry) }
+    ensures value { verdict_of result ≡ counted M.Make.spec (store_of M.Make memory.now.pool) command kind (fields_left fields.entry) }
 {
     if count == M::field_count(kind) + 1 {
         judge_fields(memory, command, count, fields)
@@ -98,7 +98,7 @@ fn judge_parts<M: Make>(
     parts: Parts<'_>,
 ) -> Result<Found, Refusal>
     requires count { parts.count ≡ length (fields_left parts.fields) }
-    ensures value { verdict_of result ≡ known M.Make.spec (ledger_of M.Make.kindof M.Make.systemtype M.Make.texts session.now memory.now.pool) (Some parts.entry.command) (fields_left parts.entry.fields) }
+    ensures value { verdict_of result ≡ known M.Make.spec (ledger_of M.Make session.now memory.now.pool) (Some parts.entry.command) (fields_left parts.entry.fields) }
 {
     let command = parts.command;
     match (takes(command), session.mode) {
@@ -116,7 +116,7 @@ pub(crate) fn judge<M: Make>(
     session: &Session,
     line: &[u8],
 ) -> Result<Found, Refusal>
-    ensures value { verdict_of result ≡ test M.Make.spec (ledger_of M.Make.kindof M.Make.systemtype M.Make.texts session.now memory.now.pool) line.now }
+    ensures value { verdict_of result ≡ test M.Make.spec (ledger_of M.Make session.now memory.now.pool) line.now }
 {
     if line.len() > LONGEST_LINE {
         return Err(Refusal::TooLong);

@@ -33,7 +33,7 @@ fn kind_number(kind: Kind) -> u8
 
 // Whether block `x` holds a record of a kind.
 fn holds<M: Make>(memory: &Memory<'_, M>, x: Index, kind: Kind) -> bool
-    ensures value { result ≡ holds (store_of M.Make.kindof M.Make.systemtype M.Make.texts memory.now.pool) x.number kind }
+    ensures value { result ≡ holds (store_of M.Make memory.now.pool) x.number kind }
 {
     if !memory.is_living(x) {
         return false;
@@ -52,7 +52,7 @@ fn put_into<M: Make>(
 ) -> usize
     requires room { 600 ≤ length out.old }
     requires count { parts.count ≡ length (fields_left parts.fields) }
-    ensures { Gives M.Make.kindof M.Make.systemtype M.Make.texts M.Make.made M.Make.written memory.old.pool memory.new.pool out.old out.new result (put_into M.Make.spec (store_of M.Make.kindof M.Make.systemtype M.Make.texts memory.old.pool) parts.entry.command x.number kind (fields_left parts.entry.fields)) }
+    ensures { Gives M.Make memory.old.pool memory.new.pool out.old out.new result (put_into M.Make.spec (store_of M.Make memory.old.pool) parts.entry.command x.number kind (fields_left parts.entry.fields)) }
 {
     let count = parts.count;
     if !holds(memory, x, kind) {
@@ -69,7 +69,7 @@ fn put_into<M: Make>(
 // Writes the fields of a tested line.
 fn put_line<M: Make>(memory: &mut Memory<'_, M>, tested: TestedLine<'_>, out: &mut [u8]) -> usize
     requires room { 600 ≤ length out.old }
-    ensures { Gives M.Make.kindof M.Make.systemtype M.Make.texts M.Make.made M.Make.written memory.old.pool memory.new.pool out.old out.new result (puts M.Make.spec (store_of M.Make.kindof M.Make.systemtype M.Make.texts memory.old.pool) (passed_of tested.entry)) }
+    ensures { Gives M.Make memory.old.pool memory.new.pool out.old out.new result (puts M.Make.spec (store_of M.Make memory.old.pool) (passed_of tested.entry)) }
 {
     if tested.line.len() > LONGEST_LINE {
         return say_err(out);
@@ -88,7 +88,7 @@ pub(crate) fn spend<M: Make>(
     out: &mut [u8],
 ) -> usize
     requires room { 600 ≤ length out.old }
-    ensures { Gives M.Make.kindof M.Make.systemtype M.Make.texts M.Make.made M.Make.written memory.old.pool memory.new.pool out.old out.new result (spent M.Make.spec mode (store_of M.Make.kindof M.Make.systemtype M.Make.texts memory.old.pool) (passed_of tested.entry)) }
+    ensures { Gives M.Make memory.old.pool memory.new.pool out.old out.new result (spent M.Make.spec mode (store_of M.Make memory.old.pool) (passed_of tested.entry)) }
 {
     match mode {
         Mode::Off => say_ng(out),

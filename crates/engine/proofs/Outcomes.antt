@@ -1,7 +1,7 @@
 -- Outcomes, put one for another. Assumes nothing.
 use Rattle.std.proofs.Common.{◌≡◌, ℕ, true, cond, eqb, List, [], length, get_or, drop, Some, Option, sym, refl, ap, ◌∙◌, subst}
 use Rattle.std.proofs.lemmas.Bool.{ne_eqb}
-use Rattle.make.specs.declared.kind.Kind.{Kind}
+use Rattle.make.specs.declared.rules.Make.{Ghosts as MakeOf}
 use Rattle.make.specs.Data.{MakeSpec}
 use Rattle.pool.specs.declared.pool.Pool.{Pool}
 use Rattle.ledger.specs.declared.mode.Mode.{Mode}
@@ -16,8 +16,8 @@ use Rattle.ledger.specs.Steps.{Outcome, at, says, sets, read_or_set, done}
 use Rattle.ledger.specs.Lines.{Heard, mode_after, does, refuses, counted, known}
 use Rattle.engine.specs.Gives.{Gives, Hears}
 
-pub gives_as : {R : Type 0} (kindof : R → Kind) (systemtype : R → ℕ) (texts : R → List (List ℕ)) (made : Kind → ℕ → R) (written : R → ℕ → List ℕ → R) (p p' : Pool R) (o o' : List ℕ) (r : ℕ) (x y : Outcome) → Gives kindof systemtype texts made written p p' o o' r x → x ≡ y → Gives kindof systemtype texts made written p p' o o' r y
-gives_as kindof systemtype texts made written p p' o o' r x y h e = subst (λ (z : Outcome). Gives kindof systemtype texts made written p p' o o' r z) e h
+pub gives_as : {M R : Type 0} (make : MakeOf M R) (p p' : Pool R) (o o' : List ℕ) (r : ℕ) (x y : Outcome) → Gives make p p' o o' r x → x ≡ y → Gives make p p' o o' r y
+gives_as make p p' o o' r x y h e = subst (λ (z : Outcome). Gives make p p' o o' r z) e h
 
 -- a command with one index, done at the record that the index names
 pub one_done : (S : MakeSpec) (L : Store) (F : Command → ℕ → Outcome) (c k : Command) (t : List ℕ) (fs : List (List ℕ)) → c ≡ k → t ≡ get_or fs 0 [] → at L (target L k (get_or fs 0 [])) (F k) ≡ done S L k fs → at L (target L c t) (F c) ≡ done S L c fs
@@ -31,8 +31,8 @@ set_done S L c i t fs rest e d here more =
     ∙ sym (ap (λ (z : Option ℕ). at L z (λ j. cond (eqb (length fs) 1) (says L c (shown_record S L j (holding L j))) (sets S L c j (holding L j) (drop 1 fs)))) (ap (target L c) (sym e) ∙ here)
     ∙ ap (λ b. cond b (says L c (shown_record S L i (holding L i))) (sets S L c i (holding L i) (drop 1 fs))) (ne_eqb (length fs) 1 more))
 
-pub hears_as : {R : Type 0} (made : Kind → ℕ → R) (written : R → ℕ → List ℕ → R) (p p' : Pool R) (o o' : List ℕ) (r : ℕ) (L' : Ledger) (x y : Heard) → Hears made written p p' o o' r L' x → x ≡ y → Hears made written p p' o o' r L' y
-hears_as made written p p' o o' r L' x y h e = subst (λ (z : Heard). Hears made written p p' o o' r L' z) e h
+pub hears_as : {M R : Type 0} (make : MakeOf M R) (p p' : Pool R) (o o' : List ℕ) (r : ℕ) (L' : Ledger) (x y : Heard) → Hears make p p' o o' r L' x → x ≡ y → Hears make p p' o o' r L' y
+hears_as make p p' o o' r L' x y h e = subst (λ (z : Heard). Hears make p p' o o' r L' z) e h
 
 -- only the switches turn the mode
 pub mode_stays : (m : Mode) (c : Command) → (c ≡ Prg → ⊥) → (c ≡ Epg → ⊥) → mode_after m c ≡ m

@@ -1,12 +1,11 @@
 -- The ledger that a session and a memory stand for. Assumes nothing.
-use Rattle.std.specs.Prelude.{ℕ, List}
-use Rattle.make.specs.declared.kind.Kind.{Kind}
+use Rattle.make.specs.declared.rules.Make.{Ghosts as MakeOf}
 use Rattle.pool.specs.declared.pool.Pool.{Pool}
 use Rattle.ledger.specs.Ledger.{Ledger}
 use Rattle.memory.specs.View.{store_of}
 use Rattle.engine.specs.declared.session.Session.{Session}
 
-module _ {R : Type 0} (kindof : R → Kind) (systemtype : R → ℕ) (texts : R → List (List ℕ)) where
+module _ {M R : Type 0} (make : MakeOf M R) where
   -- the session's mode, and the store of the memory
   abbrev pub ledger_of : Session → Pool R → Ledger
-  ledger_of s p = record { mode = s.mode; store = store_of kindof systemtype texts p }
+  ledger_of s p = record { mode = s.mode; store = store_of make p }

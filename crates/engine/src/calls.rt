@@ -25,10 +25,10 @@ fn answer<M: Make>(
     line: &[u8],
     out: &mut [u8],
 ) -> Answer
-    ensures answer { result ≡ answer_of out.old (step M.Make.spec (ledger_of M.Make.kindof M.Make.systemtype M.Make.texts session.old memory.old.pool) line.now).said }
-    ensures buffer { out.new ≡ buffer_of out.old (step M.Make.spec (ledger_of M.Make.kindof M.Make.systemtype M.Make.texts session.old memory.old.pool) line.now).said }
-    ensures ledger { ledger_of M.Make.kindof M.Make.systemtype M.Make.texts session.new memory.new.pool ≡ next_of out.old (ledger_of M.Make.kindof M.Make.systemtype M.Make.texts session.old memory.old.pool) (step M.Make.spec (ledger_of M.Make.kindof M.Make.systemtype M.Make.texts session.old memory.old.pool) line.now).next }
-    ensures records { memory.new.pool.elements.now ≡ changed M.Make.made M.Make.written memory.old.pool.chains.count (change_of out.old (step M.Make.spec (ledger_of M.Make.kindof M.Make.systemtype M.Make.texts session.old memory.old.pool) line.now).change) memory.old.pool.elements.now }
+    ensures answer { result ≡ answer_of out.old (step M.Make.spec (ledger_of M.Make session.old memory.old.pool) line.now).said }
+    ensures buffer { out.new ≡ buffer_of out.old (step M.Make.spec (ledger_of M.Make session.old memory.old.pool) line.now).said }
+    ensures ledger { ledger_of M.Make session.new memory.new.pool ≡ next_of out.old (ledger_of M.Make session.old memory.old.pool) (step M.Make.spec (ledger_of M.Make session.old memory.old.pool) line.now).next }
+    ensures records { memory.new.pool.elements.now ≡ changed M.Make memory.old.pool.chains.count (change_of out.old (step M.Make.spec (ledger_of M.Make session.old memory.old.pool) line.now).change) memory.old.pool.elements.now }
     ensures spared { Spared memory.old.pool memory.new.pool }
 {
     if out.len() < LEAST_BUFFER {
@@ -44,11 +44,11 @@ pub fn command<M: Make>(
     line: &[u8],
     out: &mut [u8],
 ) -> Answer
-    ensures answer { result ≡ answer_of out.old (step M.Make.spec (ledger_of M.Make.kindof M.Make.systemtype M.Make.texts session.old memory.old.pool) line.now).said }
-    ensures buffer { out.new ≡ buffer_of out.old (step M.Make.spec (ledger_of M.Make.kindof M.Make.systemtype M.Make.texts session.old memory.old.pool) line.now).said }
-    ensures ledger { ledger_of M.Make.kindof M.Make.systemtype M.Make.texts session.new memory.new.pool ≡ next_of out.old (ledger_of M.Make.kindof M.Make.systemtype M.Make.texts session.old memory.old.pool) (step M.Make.spec (ledger_of M.Make.kindof M.Make.systemtype M.Make.texts session.old memory.old.pool) line.now).next }
+    ensures answer { result ≡ answer_of out.old (step M.Make.spec (ledger_of M.Make session.old memory.old.pool) line.now).said }
+    ensures buffer { out.new ≡ buffer_of out.old (step M.Make.spec (ledger_of M.Make session.old memory.old.pool) line.now).said }
+    ensures ledger { ledger_of M.Make session.new memory.new.pool ≡ next_of out.old (ledger_of M.Make session.old memory.old.pool) (step M.Make.spec (ledger_of M.Make session.old memory.old.pool) line.now).next }
     ensures links { (i : ℕ) → 1 ≤ i → i ≤ memory.new.pool.chains.count → slice_index_or memory.new.pool.chains.links.now (i - 1) nowhere ≡ link_of (blocks_of memory.new.pool.chains) i }
-    ensures records { memory.new.pool.elements.now ≡ changed M.Make.made M.Make.written memory.old.pool.chains.count (change_of out.old (step M.Make.spec (ledger_of M.Make.kindof M.Make.systemtype M.Make.texts session.old memory.old.pool) line.now).change) memory.old.pool.elements.now }
+    ensures records { memory.new.pool.elements.now ≡ changed M.Make memory.old.pool.chains.count (change_of out.old (step M.Make.spec (ledger_of M.Make session.old memory.old.pool) line.now).change) memory.old.pool.elements.now }
     ensures spared { Spared memory.old.pool memory.new.pool }
 {
     answer(memory, session, line, out)

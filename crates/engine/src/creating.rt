@@ -32,8 +32,8 @@ fn create<M: Make>(
     out: &mut [u8],
 ) -> usize
     requires room { 600 ≤ length out.old }
-    requires living { Living (store_of M.Make.kindof M.Make.systemtype M.Make.texts memory.old.pool).blocks chain }
-    ensures { Gives M.Make.kindof M.Make.systemtype M.Make.texts M.Make.made M.Make.written memory.old.pool memory.new.pool out.old out.new result (creates M.Make.spec (store_of M.Make.kindof M.Make.systemtype M.Make.texts memory.old.pool) command (number chain) kind system_type) }
+    requires living { Living (store_of M.Make memory.old.pool).blocks chain }
+    ensures { Gives M.Make memory.old.pool memory.new.pool out.old out.new result (creates M.Make.spec (store_of M.Make memory.old.pool) command (number chain) kind system_type) }
 {
     let created = memory.create(chain, kind, system_type);
     say_index(out, command, created)
@@ -46,7 +46,7 @@ pub(crate) fn create_system<M: Make>(
     out: &mut [u8],
 ) -> usize
     requires room { 600 ≤ length out.old }
-    ensures { Gives M.Make.kindof M.Make.systemtype M.Make.texts M.Make.made M.Make.written memory.old.pool memory.new.pool out.old out.new result (new_system M.Make.spec (store_of M.Make.kindof M.Make.systemtype M.Make.texts memory.old.pool) (type_named M.Make.spec.types text.now)) }
+    ensures { Gives M.Make memory.old.pool memory.new.pool out.old out.new result (new_system M.Make.spec (store_of M.Make memory.old.pool) (type_named M.Make.spec.types text.now)) }
 {
     match type_named::<M>(text) {
         Some(system_type) => {
@@ -77,7 +77,7 @@ pub(crate) fn create_under_system<M: Make>(
     out: &mut [u8],
 ) -> usize
     requires room { 600 ≤ length out.old }
-    ensures { Gives M.Make.kindof M.Make.systemtype M.Make.texts M.Make.made M.Make.written memory.old.pool memory.new.pool out.old out.new result (at (store_of M.Make.kindof M.Make.systemtype M.Make.texts memory.old.pool) (target (store_of M.Make.kindof M.Make.systemtype M.Make.texts memory.old.pool) command text.now) (λ i. creates M.Make.spec (store_of M.Make.kindof M.Make.systemtype M.Make.texts memory.old.pool) command (chain_under branch i) kind 0)) }
+    ensures { Gives M.Make memory.old.pool memory.new.pool out.old out.new result (at (store_of M.Make memory.old.pool) (target (store_of M.Make memory.old.pool) command text.now) (λ i. creates M.Make.spec (store_of M.Make memory.old.pool) command (chain_under branch i) kind 0)) }
 {
     match find_target(memory, command, text) {
         Some(owner) => create(
@@ -100,7 +100,7 @@ pub(crate) fn create_below<M: Make>(
     out: &mut [u8],
 ) -> usize
     requires room { 600 ≤ length out.old }
-    ensures { Gives M.Make.kindof M.Make.systemtype M.Make.texts M.Make.made M.Make.written memory.old.pool memory.new.pool out.old out.new result (at (store_of M.Make.kindof M.Make.systemtype M.Make.texts memory.old.pool) (target (store_of M.Make.kindof M.Make.systemtype M.Make.texts memory.old.pool) command text.now) (λ i. creates M.Make.spec (store_of M.Make.kindof M.Make.systemtype M.Make.texts memory.old.pool) command (chain_under First i) (member_kind (holding (store_of M.Make.kindof M.Make.systemtype M.Make.texts memory.old.pool) i).kind) 0)) }
+    ensures { Gives M.Make memory.old.pool memory.new.pool out.old out.new result (at (store_of M.Make memory.old.pool) (target (store_of M.Make memory.old.pool) command text.now) (λ i. creates M.Make.spec (store_of M.Make memory.old.pool) command (chain_under First i) (member_kind (holding (store_of M.Make memory.old.pool) i).kind) 0)) }
 {
     match find_target(memory, command, text) {
         Some(owner) => {

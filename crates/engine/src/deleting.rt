@@ -19,7 +19,7 @@ pub(crate) fn delete<M: Make>(
     out: &mut [u8],
 ) -> usize
     requires room { 600 ≤ length out.old }
-    ensures { Gives M.Make.kindof M.Make.systemtype M.Make.texts M.Make.made M.Make.written memory.old.pool memory.new.pool out.old out.new result (at (store_of M.Make.kindof M.Make.systemtype M.Make.texts memory.old.pool) (target (store_of M.Make.kindof M.Make.systemtype M.Make.texts memory.old.pool) command text.now) (deletes (store_of M.Make.kindof M.Make.systemtype M.Make.texts memory.old.pool) command)) }
+    ensures { Gives M.Make memory.old.pool memory.new.pool out.old out.new result (at (store_of M.Make memory.old.pool) (target (store_of M.Make memory.old.pool) command text.now) (deletes (store_of M.Make memory.old.pool) command)) }
 {
     match find_target(memory, command, text) {
         Some(x) => {

@@ -44,7 +44,7 @@ fn run<M: Make>(
 ) -> usize
     requires room { 600 ≤ length out.old }
     requires count { parts.count ≡ length (fields_left parts.fields) }
-    ensures { Hears M.Make.made M.Make.written memory.old.pool memory.new.pool out.old out.new result (ledger_of M.Make.kindof M.Make.systemtype M.Make.texts session.new memory.new.pool) (known M.Make.spec (ledger_of M.Make.kindof M.Make.systemtype M.Make.texts session.old memory.old.pool) (Some parts.entry.command) (fields_left parts.entry.fields)) }
+    ensures { Hears M.Make memory.old.pool memory.new.pool out.old out.new result (ledger_of M.Make session.new memory.new.pool) (known M.Make.spec (ledger_of M.Make session.old memory.old.pool) (Some parts.entry.command) (fields_left parts.entry.fields)) }
 {
     let command = parts.command;
     let count = parts.count;
@@ -70,7 +70,7 @@ pub(crate) fn hear<M: Make>(
     out: &mut [u8],
 ) -> usize
     requires room { 600 ≤ length out.old }
-    ensures { Hears M.Make.made M.Make.written memory.old.pool memory.new.pool out.old out.new result (ledger_of M.Make.kindof M.Make.systemtype M.Make.texts session.new memory.new.pool) (step M.Make.spec (ledger_of M.Make.kindof M.Make.systemtype M.Make.texts session.old memory.old.pool) line.now) }
+    ensures { Hears M.Make memory.old.pool memory.new.pool out.old out.new result (ledger_of M.Make session.new memory.new.pool) (step M.Make.spec (ledger_of M.Make session.old memory.old.pool) line.now) }
 {
     if line.len() > LONGEST_LINE {
         return say_orer(out);

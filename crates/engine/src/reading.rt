@@ -23,7 +23,7 @@ pub(crate) fn tell_systems<M: Make>(
     out: &mut [u8],
 ) -> usize
     requires room { 600 ≤ length out.old }
-    ensures { Gives M.Make.kindof M.Make.systemtype M.Make.texts M.Make.made M.Make.written memory.old.pool memory.new.pool out.old out.new result (says (store_of M.Make.kindof M.Make.systemtype M.Make.texts memory.old.pool) command (decimal (length (systems (store_of M.Make.kindof M.Make.systemtype M.Make.texts memory.old.pool))) ∷ [])) }
+    ensures { Gives M.Make memory.old.pool memory.new.pool out.old out.new result (says (store_of M.Make memory.old.pool) command (decimal (length (systems (store_of M.Make memory.old.pool))) ∷ [])) }
 {
     let count = memory.system_count();
     say_number(out, command, count)
@@ -36,7 +36,7 @@ pub(crate) fn tell_spare<M: Make>(
     out: &mut [u8],
 ) -> usize
     requires room { 600 ≤ length out.old }
-    ensures { Gives M.Make.kindof M.Make.systemtype M.Make.texts M.Make.made M.Make.written memory.old.pool memory.new.pool out.old out.new result (says (store_of M.Make.kindof M.Make.systemtype M.Make.texts memory.old.pool) command (decimal (length (store_of M.Make.kindof M.Make.systemtype M.Make.texts memory.old.pool).blocks.free) ∷ [])) }
+    ensures { Gives M.Make memory.old.pool memory.new.pool out.old out.new result (says (store_of M.Make memory.old.pool) command (decimal (length (store_of M.Make memory.old.pool).blocks.free) ∷ [])) }
 {
     let spare = memory.spare();
     say_number(out, command, spare)
@@ -49,7 +49,7 @@ pub(crate) fn tell_first<M: Make>(
     out: &mut [u8],
 ) -> usize
     requires room { 600 ≤ length out.old }
-    ensures { Gives M.Make.kindof M.Make.systemtype M.Make.texts M.Make.made M.Make.written memory.old.pool memory.new.pool out.old out.new result (says (store_of M.Make.kindof M.Make.systemtype M.Make.texts memory.old.pool) command (shown (head_or 0 (systems (store_of M.Make.kindof M.Make.systemtype M.Make.texts memory.old.pool))) ∷ [])) }
+    ensures { Gives M.Make memory.old.pool memory.new.pool out.old out.new result (says (store_of M.Make memory.old.pool) command (shown (head_or 0 (systems (store_of M.Make memory.old.pool))) ∷ [])) }
 {
     let head = memory.head(Chain::Root);
     say_index(out, command, head)
@@ -62,7 +62,7 @@ pub(crate) fn tell_last<M: Make>(
     out: &mut [u8],
 ) -> usize
     requires room { 600 ≤ length out.old }
-    ensures { Gives M.Make.kindof M.Make.systemtype M.Make.texts M.Make.made M.Make.written memory.old.pool memory.new.pool out.old out.new result (says (store_of M.Make.kindof M.Make.systemtype M.Make.texts memory.old.pool) command (shown (last_or 0 (systems (store_of M.Make.kindof M.Make.systemtype M.Make.texts memory.old.pool))) ∷ [])) }
+    ensures { Gives M.Make memory.old.pool memory.new.pool out.old out.new result (says (store_of M.Make memory.old.pool) command (shown (last_or 0 (systems (store_of M.Make memory.old.pool))) ∷ [])) }
 {
     let tail = memory.tail(Chain::Root);
     say_index(out, command, tail)
@@ -76,7 +76,7 @@ pub(crate) fn tell_next<M: Make>(
     out: &mut [u8],
 ) -> usize
     requires room { 600 ≤ length out.old }
-    ensures { Gives M.Make.kindof M.Make.systemtype M.Make.texts M.Make.made M.Make.written memory.old.pool memory.new.pool out.old out.new result (at (store_of M.Make.kindof M.Make.systemtype M.Make.texts memory.old.pool) (target (store_of M.Make.kindof M.Make.systemtype M.Make.texts memory.old.pool) command text.now) (λ i. says (store_of M.Make.kindof M.Make.systemtype M.Make.texts memory.old.pool) command (shown (next_in (store_of M.Make.kindof M.Make.systemtype M.Make.texts memory.old.pool).blocks i) ∷ []))) }
+    ensures { Gives M.Make memory.old.pool memory.new.pool out.old out.new result (at (store_of M.Make memory.old.pool) (target (store_of M.Make memory.old.pool) command text.now) (λ i. says (store_of M.Make memory.old.pool) command (shown (next_in (store_of M.Make memory.old.pool).blocks i) ∷ []))) }
 {
     match find_target(memory, command, text) {
         Some(x) => {
@@ -95,7 +95,7 @@ pub(crate) fn tell_previous<M: Make>(
     out: &mut [u8],
 ) -> usize
     requires room { 600 ≤ length out.old }
-    ensures { Gives M.Make.kindof M.Make.systemtype M.Make.texts M.Make.made M.Make.written memory.old.pool memory.new.pool out.old out.new result (at (store_of M.Make.kindof M.Make.systemtype M.Make.texts memory.old.pool) (target (store_of M.Make.kindof M.Make.systemtype M.Make.texts memory.old.pool) command text.now) (λ i. says (store_of M.Make.kindof M.Make.systemtype M.Make.texts memory.old.pool) command (shown (prev_in (store_of M.Make.kindof M.Make.systemtype M.Make.texts memory.old.pool).blocks i) ∷ []))) }
+    ensures { Gives M.Make memory.old.pool memory.new.pool out.old out.new result (at (store_of M.Make memory.old.pool) (target (store_of M.Make memory.old.pool) command text.now) (λ i. says (store_of M.Make memory.old.pool) command (shown (prev_in (store_of M.Make memory.old.pool).blocks i) ∷ []))) }
 {
     match find_target(memory, command, text) {
         Some(x) => {
@@ -114,7 +114,7 @@ pub(crate) fn tell_talkgroups<M: Make>(
     out: &mut [u8],
 ) -> usize
     requires room { 600 ≤ length out.old }
-    ensures { Gives M.Make.kindof M.Make.systemtype M.Make.texts M.Make.made M.Make.written memory.old.pool memory.new.pool out.old out.new result (at (store_of M.Make.kindof M.Make.systemtype M.Make.texts memory.old.pool) (target (store_of M.Make.kindof M.Make.systemtype M.Make.texts memory.old.pool) command text.now) (λ i. says (store_of M.Make.kindof M.Make.systemtype M.Make.texts memory.old.pool) command (ends (talkgroups (store_of M.Make.kindof M.Make.systemtype M.Make.texts memory.old.pool) i)))) }
+    ensures { Gives M.Make memory.old.pool memory.new.pool out.old out.new result (at (store_of M.Make memory.old.pool) (target (store_of M.Make memory.old.pool) command text.now) (λ i. says (store_of M.Make memory.old.pool) command (ends (talkgroups (store_of M.Make memory.old.pool) i)))) }
 {
     match find_target(memory, command, text) {
         Some(owner) => {

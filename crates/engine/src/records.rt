@@ -19,8 +19,8 @@ use reply::whole::say_record;
 
 // The records before and behind `x`.
 fn neighbours_of<M: Make>(memory: &Memory<'_, M>, x: Index) -> Neighbours
-    ensures previous { number_of result.previous ≡ prev_in (store_of M.Make.kindof M.Make.systemtype M.Make.texts memory.now.pool).blocks x.number }
-    ensures next { number_of result.next ≡ next_in (store_of M.Make.kindof M.Make.systemtype M.Make.texts memory.now.pool).blocks x.number }
+    ensures previous { number_of result.previous ≡ prev_in (store_of M.Make memory.now.pool).blocks x.number }
+    ensures next { number_of result.next ≡ next_in (store_of M.Make memory.now.pool).blocks x.number }
     ensures proper { Proper result.previous × Proper result.next }
 {
     Neighbours {
@@ -31,10 +31,10 @@ fn neighbours_of<M: Make>(memory: &Memory<'_, M>, x: Index) -> Neighbours
 
 // Head and tail of the first chain of `x`, and the place of `x` in its own chain.
 fn chained_of<M: Make>(memory: &Memory<'_, M>, x: Index) -> Chained
-    requires living { living (store_of M.Make.kindof M.Make.systemtype M.Make.texts memory.now.pool) x.number ≡ true }
-    ensures head { number_of result.head ≡ head_or 0 (members (store_of M.Make.kindof M.Make.systemtype M.Make.texts memory.now.pool) x.number) }
-    ensures tail { number_of result.tail ≡ last_or 0 (members (store_of M.Make.kindof M.Make.systemtype M.Make.texts memory.now.pool) x.number) }
-    ensures place { result.place ≡ sequence (store_of M.Make.kindof M.Make.systemtype M.Make.texts memory.now.pool) x.number }
+    requires living { living (store_of M.Make memory.now.pool) x.number ≡ true }
+    ensures head { number_of result.head ≡ head_or 0 (members (store_of M.Make memory.now.pool) x.number) }
+    ensures tail { number_of result.tail ≡ last_or 0 (members (store_of M.Make memory.now.pool) x.number) }
+    ensures place { result.place ≡ sequence (store_of M.Make memory.now.pool) x.number }
     ensures proper { Proper result.head × Proper result.tail × (result.place < 100000) }
 {
     let members = Chain::Members {
@@ -51,7 +51,7 @@ fn chained_of<M: Make>(memory: &Memory<'_, M>, x: Index) -> Chained
 // The owner of an owner, which may be none.
 fn system_over<M: Make>(memory: &Memory<'_, M>, owner: Option<Index>) -> Option<Index>
     requires proper { Proper owner }
-    ensures value { number_of result ≡ system_over (store_of M.Make.kindof M.Make.systemtype M.Make.texts memory.now.pool) (number_of owner) }
+    ensures value { number_of result ≡ system_over (store_of M.Make memory.now.pool) (number_of owner) }
     ensures proper { Proper result }
 {
     match owner {
@@ -62,8 +62,8 @@ fn system_over<M: Make>(memory: &Memory<'_, M>, owner: Option<Index>) -> Option<
 
 // The links that a read of `x` shows.
 fn links_of<M: Make>(memory: &Memory<'_, M>, x: Index, kind: Kind) -> Links
-    requires living { living (store_of M.Make.kindof M.Make.systemtype M.Make.texts memory.now.pool) x.number ≡ true }
-    ensures value { pieces_of result ≡ links (store_of M.Make.kindof M.Make.systemtype M.Make.texts memory.now.pool) x.number kind }
+    requires living { living (store_of M.Make memory.now.pool) x.number ≡ true }
+    ensures value { pieces_of result ≡ links (store_of M.Make memory.now.pool) x.number kind }
     ensures proper { AllProper result }
 {
     let neighbours = neighbours_of(memory, x);
@@ -87,8 +87,8 @@ pub(crate) fn tell_record<M: Make>(
     out: &mut [u8],
 ) -> usize
     requires room { 600 ≤ length out.old }
-    requires living { living (store_of M.Make.kindof M.Make.systemtype M.Make.texts memory.old.pool) x.number ≡ true }
-    ensures { Gives M.Make.kindof M.Make.systemtype M.Make.texts M.Make.made M.Make.written memory.old.pool memory.new.pool out.old out.new result (says (store_of M.Make.kindof M.Make.systemtype M.Make.texts memory.old.pool) command (shown_record M.Make.spec (store_of M.Make.kindof M.Make.systemtype M.Make.texts memory.old.pool) x.number (holding (store_of M.Make.kindof M.Make.systemtype M.Make.texts memory.old.pool) x.number))) }
+    requires living { living (store_of M.Make memory.old.pool) x.number ≡ true }
+    ensures { Gives M.Make memory.old.pool memory.new.pool out.old out.new result (says (store_of M.Make memory.old.pool) command (shown_record M.Make.spec (store_of M.Make memory.old.pool) x.number (holding (store_of M.Make memory.old.pool) x.number))) }
 {
     let record = memory.read(x);
     let links = links_of(memory, x, M::kind(&record));

@@ -28,7 +28,7 @@ use text::field::Fields;
 // CLR: every block is free again.
 fn clear<M: Make>(memory: &mut Memory<'_, M>, out: &mut [u8]) -> usize
     requires room { 600 ≤ length out.old }
-    ensures { Gives M.Make.kindof M.Make.systemtype M.Make.texts M.Make.made M.Make.written memory.old.pool memory.new.pool out.old out.new result (done M.Make.spec (store_of M.Make.kindof M.Make.systemtype M.Make.texts memory.old.pool) Clr []) }
+    ensures { Gives M.Make memory.old.pool memory.new.pool out.old out.new result (done M.Make.spec (store_of M.Make memory.old.pool) Clr []) }
 {
     memory.clear();
     say_ok(out, Command::Clr)
@@ -44,7 +44,7 @@ fn read_or_set<M: Make>(
 ) -> usize
     requires room { 600 ≤ length out.old }
     requires count { count ≡ length (fields_left fields) }
-    ensures { Gives M.Make.kindof M.Make.systemtype M.Make.texts M.Make.made M.Make.written memory.old.pool memory.new.pool out.old out.new result (read_or_set M.Make.spec (store_of M.Make.kindof M.Make.systemtype M.Make.texts memory.old.pool) command (fields_left fields.entry)) }
+    ensures { Gives M.Make memory.old.pool memory.new.pool out.old out.new result (read_or_set M.Make.spec (store_of M.Make memory.old.pool) command (fields_left fields.entry)) }
 {
     let mut rest = fields;
     let text = next_bytes(&mut rest);
@@ -69,7 +69,7 @@ fn with_one<M: Make>(
 ) -> usize
     requires room { 600 ≤ length out.old }
     requires one { takes_of command ≡ One }
-    ensures { Gives M.Make.kindof M.Make.systemtype M.Make.texts M.Make.made M.Make.written memory.old.pool memory.new.pool out.old out.new result (done M.Make.spec (store_of M.Make.kindof M.Make.systemtype M.Make.texts memory.old.pool) command (fields_left fields.entry)) }
+    ensures { Gives M.Make memory.old.pool memory.new.pool out.old out.new result (done M.Make.spec (store_of M.Make memory.old.pool) command (fields_left fields.entry)) }
 {
     let mut rest = fields;
     let text = next_bytes(&mut rest);
@@ -113,7 +113,7 @@ fn with_none<M: Make>(
 ) -> usize
     requires room { 600 ≤ length out.old }
     requires none { takes_of command ≡ Nothing }
-    ensures { Gives M.Make.kindof M.Make.systemtype M.Make.texts M.Make.made M.Make.written memory.old.pool memory.new.pool out.old out.new result (done M.Make.spec (store_of M.Make.kindof M.Make.systemtype M.Make.texts memory.old.pool) command (fields_left fields.entry)) }
+    ensures { Gives M.Make memory.old.pool memory.new.pool out.old out.new result (done M.Make.spec (store_of M.Make memory.old.pool) command (fields_left fields.entry)) }
 {
     match command {
         Command::Clr => clear(memory, out),
@@ -135,7 +135,7 @@ pub(crate) fn carry_out<M: Make>(
 ) -> usize
     requires room { 600 ≤ length out.old }
     requires count { count ≡ length (fields_left fields) }
-    ensures { Gives M.Make.kindof M.Make.systemtype M.Make.texts M.Make.made M.Make.written memory.old.pool memory.new.pool out.old out.new result (done M.Make.spec (store_of M.Make.kindof M.Make.systemtype M.Make.texts memory.old.pool) command (fields_left fields.entry)) }
+    ensures { Gives M.Make memory.old.pool memory.new.pool out.old out.new result (done M.Make.spec (store_of M.Make memory.old.pool) command (fields_left fields.entry)) }
 {
     match takes(command) {
         Takes::Switch => say_ok(out, command),

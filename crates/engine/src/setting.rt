@@ -24,9 +24,9 @@ pub fn set<M: Make>(
     out: &mut [u8],
 ) -> usize
     requires room { 600 ≤ length out.old }
-    requires living { living (store_of M.Make.kindof M.Make.systemtype M.Make.texts memory.old.pool) x.number ≡ true }
+    requires living { living (store_of M.Make memory.old.pool) x.number ≡ true }
     requires few { length (fields_left fields) ≤ count }
-    ensures { Gives M.Make.kindof M.Make.systemtype M.Make.texts M.Make.made M.Make.written memory.old.pool memory.new.pool out.old out.new result (sets M.Make.spec (store_of M.Make.kindof M.Make.systemtype M.Make.texts memory.old.pool) command x.number (holding (store_of M.Make.kindof M.Make.systemtype M.Make.texts memory.old.pool) x.number) (fields_left fields.entry)) }
+    ensures { Gives M.Make memory.old.pool memory.new.pool out.old out.new result (sets M.Make.spec (store_of M.Make memory.old.pool) command x.number (holding (store_of M.Make memory.old.pool) x.number) (fields_left fields.entry)) }
 {
     let record = memory.read(x);
     if fields_legal::<M>(M::kind(&record), count, fields) {

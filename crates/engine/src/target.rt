@@ -13,7 +13,7 @@ use memory::Memory;
 
 // The living record that a text names, if the command is for such a record.
 pub fn find_target<M: Make>(memory: &Memory<'_, M>, command: Command, text: &[u8]) -> Option<Index>
-    ensures { MatchOption result (target (store_of M.Make.kindof M.Make.systemtype M.Make.texts memory.now.pool) command text.now ≡ None) (λ i. (target (store_of M.Make.kindof M.Make.systemtype M.Make.texts memory.now.pool) command text.now ≡ Some i.number) × (living (store_of M.Make.kindof M.Make.systemtype M.Make.texts memory.now.pool) i.number ≡ true)) }
+    ensures { MatchOption result (target (store_of M.Make memory.now.pool) command text.now ≡ None) (λ i. (target (store_of M.Make memory.now.pool) command text.now ≡ Some i.number) × (living (store_of M.Make memory.now.pool) i.number ≡ true)) }
 {
     let x = read_index(text, memory.count())?;
     if !memory.is_living(x) {

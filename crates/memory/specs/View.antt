@@ -1,14 +1,14 @@
 -- What a memory's tables stand for. Assumes nothing.
-use Rattle.std.specs.Prelude.{◌≡◌, ℕ, List, map, take, drop}
-use Rattle.make.specs.declared.kind.Kind.{Kind}
+use Rattle.std.specs.Prelude.{◌≡◌, map, take, drop}
+use Rattle.make.specs.declared.rules.Make.{Ghosts as MakeOf}
 use Rattle.chain.specs.View.{blocks_of}
 use Rattle.pool.specs.declared.pool.Pool.{Pool}
 use Rattle.ledger.specs.Ledger.{Holding, Store, type_for}
 
-module _ {R : Type 0} (kindof : R → Kind) (systemtype : R → ℕ) (texts : R → List (List ℕ)) where
+module _ {M R : Type 0} (make : MakeOf M R) where
   -- what a record means
   abbrev pub meaning : R → Holding
-  meaning r = record { kind = kindof r; system_type = type_for (kindof r) (systemtype r); texts = texts r }
+  meaning r = record { kind = make.kindof r; system_type = type_for (make.kindof r) (make.systemtype r); texts = make.texts r }
 
   -- the blocks that the links tell, and what the records mean, of each block up to the count
   unfoldable pub store_of : Pool R → Store

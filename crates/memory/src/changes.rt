@@ -21,11 +21,11 @@ use text::field::Fields;
 impl<'a, M: Make> Memory<'a, M> {
     // A new record of a kind and a type at the tail of a chain, which is that of the systems or whose owner is living. `None` where no block is free.
     pub fn create(&mut self, chain: Chain, kind: Kind, system_type: u8) -> Option<Index>
-        requires living { Living (store_of M.Make.kindof M.Make.systemtype M.Make.texts self.old.pool).blocks chain }
-        ensures value { number_of result ≡ head_or 0 (store_of M.Make.kindof M.Make.systemtype M.Make.texts self.old.pool).blocks.free }
+        requires living { Living (store_of M.Make self.old.pool).blocks chain }
+        ensures value { number_of result ≡ head_or 0 (store_of M.Make self.old.pool).blocks.free }
         ensures proper { Proper result }
-        ensures store { (store_of M.Make.kindof M.Make.systemtype M.Make.texts self.new.pool) ≡ grown M.Make.spec (store_of M.Make.kindof M.Make.systemtype M.Make.texts self.old.pool) (number chain) kind system_type }
-        ensures records { self.new.pool.elements.now ≡ stored (head_or 0 (store_of M.Make.kindof M.Make.systemtype M.Make.texts self.old.pool).blocks.free) (M.Make.made kind system_type) self.old.pool.elements.now }
+        ensures store { (store_of M.Make self.new.pool) ≡ grown M.Make.spec (store_of M.Make self.old.pool) (number chain) kind system_type }
+        ensures records { self.new.pool.elements.now ≡ stored (head_or 0 (store_of M.Make self.old.pool).blocks.free) (M.Make.made kind system_type) self.old.pool.elements.now }
         ensures spared { Spared self.old.pool self.new.pool }
     {
         let record = M::fresh(kind, system_type);
@@ -34,8 +34,8 @@ impl<'a, M: Make> Memory<'a, M> {
 
     // Deletes record `x` with its members.
     pub fn delete(&mut self, x: Index)
-        requires living { living (store_of M.Make.kindof M.Make.systemtype M.Make.texts self.old.pool) x.number ≡ true }
-        ensures store { (store_of M.Make.kindof M.Make.systemtype M.Make.texts self.new.pool) ≡ record { blocks = deleted (store_of M.Make.kindof M.Make.systemtype M.Make.texts self.old.pool).blocks x.number; held = (store_of M.Make.kindof M.Make.systemtype M.Make.texts self.old.pool).held } }
+        requires living { living (store_of M.Make self.old.pool) x.number ≡ true }
+        ensures store { (store_of M.Make self.new.pool) ≡ record { blocks = deleted (store_of M.Make self.old.pool).blocks x.number; held = (store_of M.Make self.old.pool).held } }
         ensures records { self.new.pool.elements.now ≡ self.old.pool.elements.now }
         ensures spared { Spared self.old.pool self.new.pool }
     {
@@ -44,11 +44,11 @@ impl<'a, M: Make> Memory<'a, M> {
 
     // Writes the fields that a cursor has still to hand out into record `x`. All of them are left out or legal there.
     pub fn write(&mut self, x: Index, count: usize, fields: Fields<'_>)
-        requires living { living (store_of M.Make.kindof M.Make.systemtype M.Make.texts self.old.pool) x.number ≡ true }
+        requires living { living (store_of M.Make self.old.pool) x.number ≡ true }
         requires few { length (fields_left fields) ≤ count }
-        requires legal { fields_legal M.Make.spec (holding (store_of M.Make.kindof M.Make.systemtype M.Make.texts self.old.pool) x.number).kind 0 (fields_left fields) ≡ true }
-        ensures store { (store_of M.Make.kindof M.Make.systemtype M.Make.texts self.new.pool) ≡ written M.Make.spec (store_of M.Make.kindof M.Make.systemtype M.Make.texts self.old.pool) x.number (holding (store_of M.Make.kindof M.Make.systemtype M.Make.texts self.old.pool) x.number) (fields_left fields.entry) }
-        ensures records { self.new.pool.elements.now ≡ rewritten M.Make.made M.Make.written x.number (fields_left fields.entry) self.old.pool.elements.now }
+        requires legal { fields_legal M.Make.spec (holding (store_of M.Make self.old.pool) x.number).kind 0 (fields_left fields) ≡ true }
+        ensures store { (store_of M.Make self.new.pool) ≡ written M.Make.spec (store_of M.Make self.old.pool) x.number (holding (store_of M.Make self.old.pool) x.number) (fields_left fields.entry) }
+        ensures records { self.new.pool.elements.now ≡ rewritten M.Make x.number (fields_left fields.entry) self.old.pool.elements.now }
         ensures spared { Spared self.old.pool self.new.pool }
     {
         let mut record = self.pool.read(x);

@@ -15,7 +15,7 @@ use make::Make;
 impl<'a, M: Make> Memory<'a, M> {
     // How many blocks there are.
     pub fn count(&self) -> u32
-        ensures value { result ≡ block_count (store_of M.Make.kindof M.Make.systemtype M.Make.texts self.now.pool) }
+        ensures value { result ≡ block_count (store_of M.Make self.now.pool) }
         ensures bound { result ≤ 45000 }
     {
         self.pool.count()
@@ -23,7 +23,7 @@ impl<'a, M: Make> Memory<'a, M> {
 
     // How many blocks are free.
     pub fn spare(&self) -> u32
-        ensures value { result ≡ length (store_of M.Make.kindof M.Make.systemtype M.Make.texts self.now.pool).blocks.free }
+        ensures value { result ≡ length (store_of M.Make self.now.pool).blocks.free }
         ensures bound { result ≤ 45000 }
     {
         self.pool.spare()
@@ -31,22 +31,22 @@ impl<'a, M: Make> Memory<'a, M> {
 
     // Whether block `x` holds a record.
     pub fn is_living(&self, x: Index) -> bool
-        ensures value { result ≡ living (store_of M.Make.kindof M.Make.systemtype M.Make.texts self.now.pool) x.number }
+        ensures value { result ≡ living (store_of M.Make self.now.pool) x.number }
     {
         self.pool.is_used(x)
     }
 
     // The record in block `x`.
     pub fn read(&self, x: Index) -> M::Record
-        requires living { living (store_of M.Make.kindof M.Make.systemtype M.Make.texts self.now.pool) x.number ≡ true }
-        ensures value { meaning M.Make.kindof M.Make.systemtype M.Make.texts result ≡ holding (store_of M.Make.kindof M.Make.systemtype M.Make.texts self.now.pool) x.number }
+        requires living { living (store_of M.Make self.now.pool) x.number ≡ true }
+        ensures value { meaning M.Make result ≡ holding (store_of M.Make self.now.pool) x.number }
     {
         self.pool.read(x)
     }
 
     // The record behind `x` in its chain.
     pub fn next(&self, x: Index) -> Option<Index>
-        ensures value { number_of result ≡ next_in (store_of M.Make.kindof M.Make.systemtype M.Make.texts self.now.pool).blocks x.number }
+        ensures value { number_of result ≡ next_in (store_of M.Make self.now.pool).blocks x.number }
         ensures proper { Proper result }
     {
         self.pool.next(x)
@@ -54,7 +54,7 @@ impl<'a, M: Make> Memory<'a, M> {
 
     // The record before `x` in its chain.
     pub fn previous(&self, x: Index) -> Option<Index>
-        ensures value { number_of result ≡ prev_in (store_of M.Make.kindof M.Make.systemtype M.Make.texts self.now.pool).blocks x.number }
+        ensures value { number_of result ≡ prev_in (store_of M.Make self.now.pool).blocks x.number }
         ensures proper { Proper result }
     {
         self.pool.previous(x)
@@ -62,7 +62,7 @@ impl<'a, M: Make> Memory<'a, M> {
 
     // The record whose member `x` is.
     pub fn owner(&self, x: Index) -> Option<Index>
-        ensures value { number_of result ≡ owner (store_of M.Make.kindof M.Make.systemtype M.Make.texts self.now.pool) x.number }
+        ensures value { number_of result ≡ owner (store_of M.Make self.now.pool) x.number }
         ensures proper { Proper result }
     {
         self.pool.owner(x)
@@ -70,8 +70,8 @@ impl<'a, M: Make> Memory<'a, M> {
 
     // The oldest record of a chain, which is that of the systems or whose owner is living.
     pub fn head(&self, chain: Chain) -> Option<Index>
-        requires living { Living (store_of M.Make.kindof M.Make.systemtype M.Make.texts self.now.pool).blocks chain }
-        ensures value { number_of result ≡ head_or 0 (chain_in (store_of M.Make.kindof M.Make.systemtype M.Make.texts self.now.pool).blocks (number chain)) }
+        requires living { Living (store_of M.Make self.now.pool).blocks chain }
+        ensures value { number_of result ≡ head_or 0 (chain_in (store_of M.Make self.now.pool).blocks (number chain)) }
         ensures proper { Proper result }
     {
         self.pool.head(chain)
@@ -79,8 +79,8 @@ impl<'a, M: Make> Memory<'a, M> {
 
     // The newest record of a chain, which is that of the systems or whose owner is living.
     pub fn tail(&self, chain: Chain) -> Option<Index>
-        requires living { Living (store_of M.Make.kindof M.Make.systemtype M.Make.texts self.now.pool).blocks chain }
-        ensures value { number_of result ≡ last_or 0 (chain_in (store_of M.Make.kindof M.Make.systemtype M.Make.texts self.now.pool).blocks (number chain)) }
+        requires living { Living (store_of M.Make self.now.pool).blocks chain }
+        ensures value { number_of result ≡ last_or 0 (chain_in (store_of M.Make self.now.pool).blocks (number chain)) }
         ensures proper { Proper result }
     {
         self.pool.tail(chain)
@@ -88,7 +88,7 @@ impl<'a, M: Make> Memory<'a, M> {
 
     // How many systems there are.
     pub fn system_count(&self) -> u32
-        ensures value { result ≡ length (systems (store_of M.Make.kindof M.Make.systemtype M.Make.texts self.now.pool)) }
+        ensures value { result ≡ length (systems (store_of M.Make self.now.pool)) }
         ensures bound { result ≤ 45000 }
     {
         self.pool.len(Chain::Root)
@@ -96,7 +96,7 @@ impl<'a, M: Make> Memory<'a, M> {
 
     // The sequence number of record `x`: its place in its chain.
     pub fn place(&self, x: Index) -> u32
-        ensures value { result ≡ sequence (store_of M.Make.kindof M.Make.systemtype M.Make.texts self.now.pool) x.number }
+        ensures value { result ≡ sequence (store_of M.Make self.now.pool) x.number }
         ensures bound { result ≤ 45000 }
     {
         match self.pool.place(x) {

@@ -38,8 +38,8 @@ fn hear_line<M: Make>(
 ) -> usize
     requires room { 600 ≤ length buffer.old }
     ensures within { result ≤ length buffer.old }
-    ensures said { take result buffer.new ≡ (step M.Make.spec (ledger_of M.Make.kindof M.Make.systemtype M.Make.texts session.old memory.old.pool) line.now).said }
-    ensures ledger { (ledger_of M.Make.kindof M.Make.systemtype M.Make.texts session.new memory.new.pool) ≡ (step M.Make.spec (ledger_of M.Make.kindof M.Make.systemtype M.Make.texts session.old memory.old.pool) line.now).next }
+    ensures said { take result buffer.new ≡ (step M.Make.spec (ledger_of M.Make session.old memory.old.pool) line.now).said }
+    ensures ledger { (ledger_of M.Make session.new memory.new.pool) ≡ (step M.Make.spec (ledger_of M.Make session.old memory.old.pool) line.now).next }
 {
     match command(memory, session, line, buffer) {
         Answer::Reply(n) => n,
@@ -54,8 +54,8 @@ fn answer_line<M: Make>(
     line: &[u8],
     out: &mut Vec<u8>,
 ) -> Result<(), AllocError>
-    ensures replies { OnOk result (out.new.items ≡ out.old.items ++ (step M.Make.spec (ledger_of M.Make.kindof M.Make.systemtype M.Make.texts session.old memory.old.pool) line.now).said) }
-    ensures ledger { (ledger_of M.Make.kindof M.Make.systemtype M.Make.texts session.new memory.new.pool) ≡ (step M.Make.spec (ledger_of M.Make.kindof M.Make.systemtype M.Make.texts session.old memory.old.pool) line.now).next }
+    ensures replies { OnOk result (out.new.items ≡ out.old.items ++ (step M.Make.spec (ledger_of M.Make session.old memory.old.pool) line.now).said) }
+    ensures ledger { (ledger_of M.Make session.new memory.new.pool) ≡ (step M.Make.spec (ledger_of M.Make session.old memory.old.pool) line.now).next }
 {
     let mut buffer = [0u8; REPLY_BUFFER];
     let n = hear_line(memory, session, line, &mut buffer);
@@ -79,8 +79,8 @@ fn answer_cut<M: Make>(
     line: &[u8],
     out: &mut Vec<u8>,
 ) -> Result<(), AllocError>
-    ensures replies { OnOk result (out.new.items ≡ out.old.items ++ (step M.Make.spec (ledger_of M.Make.kindof M.Make.systemtype M.Make.texts session.old memory.old.pool) (take 257 line.now)).said) }
-    ensures ledger { (ledger_of M.Make.kindof M.Make.systemtype M.Make.texts session.new memory.new.pool) ≡ (step M.Make.spec (ledger_of M.Make.kindof M.Make.systemtype M.Make.texts session.old memory.old.pool) (take 257 line.now)).next }
+    ensures replies { OnOk result (out.new.items ≡ out.old.items ++ (step M.Make.spec (ledger_of M.Make session.old memory.old.pool) (take 257 line.now)).said) }
+    ensures ledger { (ledger_of M.Make session.new memory.new.pool) ≡ (step M.Make.spec (ledger_of M.Make session.old memory.old.pool) (take 257 line.now)).next }
 {
     let mut buffer = [0u8; LINE_BUFFER];
     let len = copy_line(&mut buffer, line);
@@ -94,8 +94,8 @@ pub(crate) fn answer_lines<M: Make>(
     text: &[u8],
     out: &mut Vec<u8>,
 ) -> Result<(), AllocError>
-    ensures replies { OnOk result (out.new.items ≡ out.old.items ++ replies M.Make.spec (ledger_of M.Make.kindof M.Make.systemtype M.Make.texts session.old memory.old.pool) (lines_of text.now)) }
-    ensures ledger { OnOk result ((ledger_of M.Make.kindof M.Make.systemtype M.Make.texts session.new memory.new.pool) ≡ behind M.Make.spec (ledger_of M.Make.kindof M.Make.systemtype M.Make.texts session.old memory.old.pool) (lines_of text.now)) }
+    ensures replies { OnOk result (out.new.items ≡ out.old.items ++ replies M.Make.spec (ledger_of M.Make session.old memory.old.pool) (lines_of text.now)) }
+    ensures ledger { OnOk result ((ledger_of M.Make session.new memory.new.pool) ≡ behind M.Make.spec (ledger_of M.Make session.old memory.old.pool) (lines_of text.now)) }
 {
     let mut rest = text;
     while let Some(end) = line_end(rest) {

@@ -35,19 +35,19 @@ fn add_names<M: Make>(kind: Kind, out: &mut Vec<u8>) -> Result<(), AllocError>
 // Writes the row of record `x` to the front of a buffer.
 fn row_to<M: Make>(memory: &Memory<'_, M>, x: Index, buffer: &mut [u8]) -> usize
     requires room { 600 ≤ length buffer.old }
-    requires living { living (store_of M.Make.kindof M.Make.systemtype M.Make.texts memory.now.pool) x.number ≡ true }
+    requires living { living (store_of M.Make memory.now.pool) x.number ≡ true }
     requires short { x.number < 100000 }
     ensures within { result ≤ length buffer.old }
-    ensures said { take result buffer.new ≡ row M.Make.spec (store_of M.Make.kindof M.Make.systemtype M.Make.texts memory.now.pool) x.number }
+    ensures said { take result buffer.new ≡ row M.Make.spec (store_of M.Make memory.now.pool) x.number }
 {
     put_row(memory, x, buffer)
 }
 
 // Adds the row of record `x`.
 fn add_row<M: Make>(memory: &Memory<'_, M>, x: Index, out: &mut Vec<u8>) -> Result<(), AllocError>
-    requires living { living (store_of M.Make.kindof M.Make.systemtype M.Make.texts memory.now.pool) x.number ≡ true }
+    requires living { living (store_of M.Make memory.now.pool) x.number ≡ true }
     requires short { x.number < 100000 }
-    ensures { OnOk result (out.new.items ≡ out.old.items ++ row M.Make.spec (store_of M.Make.kindof M.Make.systemtype M.Make.texts memory.now.pool) x.number) }
+    ensures { OnOk result (out.new.items ≡ out.old.items ++ row M.Make.spec (store_of M.Make memory.now.pool) x.number) }
 {
     let mut buffer = [0u8; SHEET_BUFFER];
     let n = row_to(memory, x, &mut buffer);
@@ -56,7 +56,7 @@ fn add_row<M: Make>(memory: &Memory<'_, M>, x: Index, out: &mut Vec<u8>) -> Resu
 
 // Whether block `x` holds a record of a kind.
 fn is_row<M: Make>(memory: &Memory<'_, M>, kind: Kind, x: Index) -> bool
-    ensures { result ≡ is_row (store_of M.Make.kindof M.Make.systemtype M.Make.texts memory.now.pool) kind x.number }
+    ensures { result ≡ is_row (store_of M.Make memory.now.pool) kind x.number }
 {
     if !memory.is_living(x) {
         return false;
@@ -84,9 +84,9 @@ fn add_named_row<M: Make>(
     named: bool,
     out: &mut Vec<u8>,
 ) -> Result<(), AllocError>
-    requires living { living (store_of M.Make.kindof M.Make.systemtype M.Make.texts memory.now.pool) x.number ≡ true }
+    requires living { living (store_of M.Make memory.now.pool) x.number ≡ true }
     requires short { x.number < 100000 }
-    ensures { OnOk result (out.new.items ≡ (out.old.items ++ (if named then [] else names M.Make.spec kind)) ++ row M.Make.spec (store_of M.Make.kindof M.Make.systemtype M.Make.texts memory.now.pool) x.number) }
+    ensures { OnOk result (out.new.items ≡ (out.old.items ++ (if named then [] else names M.Make.spec kind)) ++ row M.Make.spec (store_of M.Make memory.now.pool) x.number) }
 {
     if !named {
         add_names::<M>(kind, out)?;
@@ -100,7 +100,7 @@ fn add_part<M: Make>(
     kind: Kind,
     out: &mut Vec<u8>,
 ) -> Result<(), AllocError>
-    ensures { OnOk result (out.new.items ≡ out.old.items ++ part M.Make.spec (store_of M.Make.kindof M.Make.systemtype M.Make.texts memory.now.pool) kind) }
+    ensures { OnOk result (out.new.items ≡ out.old.items ++ part M.Make.spec (store_of M.Make memory.now.pool) kind) }
 {
     let count = memory.count();
     let mut named = false;
@@ -120,7 +120,7 @@ fn add_parts<M: Make>(
     kinds: &[Kind],
     out: &mut Vec<u8>,
 ) -> Result<(), AllocError>
-    ensures { OnOk result (out.new.items ≡ out.old.items ++ parts_of M.Make.spec (store_of M.Make.kindof M.Make.systemtype M.Make.texts memory.now.pool) kinds.now) }
+    ensures { OnOk result (out.new.items ≡ out.old.items ++ parts_of M.Make.spec (store_of M.Make memory.now.pool) kinds.now) }
 {
     for kind in kinds {
         add_part(memory, *kind, out)?;
@@ -144,7 +144,7 @@ pub(crate) fn add_sheet<M: Make>(
     memory: &Memory<'_, M>,
     out: &mut Vec<u8>,
 ) -> Result<(), AllocError>
-    ensures { OnOk result (out.new.items ≡ out.old.items ++ sheet M.Make.spec (store_of M.Make.kindof M.Make.systemtype M.Make.texts memory.now.pool)) }
+    ensures { OnOk result (out.new.items ≡ out.old.items ++ sheet M.Make.spec (store_of M.Make memory.now.pool)) }
 {
     add_parts(memory, &KINDS, out)
 }

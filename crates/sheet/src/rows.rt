@@ -19,7 +19,7 @@ use text::number::put_number;
 fn put_places<M: Make>(memory: &Memory<'_, M>, x: Index, out: &mut [u8], at: usize) -> usize
     requires room { at + 18 ≤ length out.old }
     ensures bound { result ≤ at + 18 }
-    ensures texts { Listed out.old out.new at result (shown (owner (store_of M.Make.kindof M.Make.systemtype M.Make.texts memory.now.pool) x.number) ∷ shown (prev_in (store_of M.Make.kindof M.Make.systemtype M.Make.texts memory.now.pool).blocks x.number) ∷ shown (next_in (store_of M.Make.kindof M.Make.systemtype M.Make.texts memory.now.pool).blocks x.number) ∷ []) }
+    ensures texts { Listed out.old out.new at result (shown (owner (store_of M.Make memory.now.pool) x.number) ∷ shown (prev_in (store_of M.Make memory.now.pool).blocks x.number) ∷ shown (next_in (store_of M.Make memory.now.pool).blocks x.number) ∷ []) }
 {
     let owned = index_piece(out, at, memory.owner(x));
     let back = index_piece(out, owned, memory.previous(x));
@@ -46,9 +46,9 @@ fn put_type<M: Make>(out: &mut [u8], at: usize, kind: Kind, system_type: u8) -> 
 // The row of record `x`.
 pub fn put_row<M: Make>(memory: &Memory<'_, M>, x: Index, out: &mut [u8]) -> usize
     requires room { 600 ≤ length out.old }
-    requires living { living (store_of M.Make.kindof M.Make.systemtype M.Make.texts memory.now.pool) x.number ≡ true }
+    requires living { living (store_of M.Make memory.now.pool) x.number ≡ true }
     requires short { x.number < 100000 }
-    ensures { Wrote out.old out.new result (row M.Make.spec (store_of M.Make.kindof M.Make.systemtype M.Make.texts memory.now.pool) x.number) }
+    ensures { Wrote out.old out.new result (row M.Make.spec (store_of M.Make memory.now.pool) x.number) }
 {
     let record = memory.read(x);
     let kind = M::kind(&record);

@@ -11,10 +11,10 @@ use Rattle.engine.proofs.hearing.run.Goals as goal
 pub returns-then-counts : goal.returns-then-counts
 returns-then-counts g c =
     let S = g.M.Make.spec in
-    let L = ledger_of g.M.Make.kindof g.M.Make.systemtype g.M.Make.texts c.args.session.now c.args.memory.now.pool in
+    let L = ledger_of g.M.Make c.args.session.now c.args.memory.now.pool in
     let command = c.args.parts.command in
     let fs = fields_left c.args.parts.fields in
     let on = c.in-On-default in
     let right = ap (λ (t : Takes). counts S t (length fs)) (sym c.takes.ensures.value) ∙ ap (counts S c.takes.result) (sym c.requires.count) ∙ sym c.counts.ensures.value ∙ c.if-counts.true in
     let h = c.carry_out.ensures in
-    hears_as g.M.Make.made g.M.Make.written _ _ _ _ _ _ _ _ (record { wrote = h.wrote; ledger = ap (λ (s : Store). record { mode = L.mode; store = s }) h.store; records = h.records; spared = h.spared }) (on_done S L command fs on.is-0 right (mode_stays L.mode command on.not-Prg-1 on.not-Epg-1))
+    hears_as g.M.Make _ _ _ _ _ _ _ _ (record { wrote = h.wrote; ledger = ap (λ (s : Store). record { mode = L.mode; store = s }) h.store; records = h.records; spared = h.spared }) (on_done S L command fs on.is-0 right (mode_stays L.mode command on.not-Prg-1 on.not-Epg-1))

@@ -6,5 +6,5 @@ use Rattle.engine.proofs.running.read_or_set.Goals as goal
 
 pub returns-else-count-eq1 : goal.returns-else-count-eq1
 returns-else-count-eq1 g c =
-    let L = store_of g.M.Make.kindof g.M.Make.systemtype g.M.Make.texts c.args.memory.now.pool in
-    gives_as g.M.Make.kindof g.M.Make.systemtype g.M.Make.texts g.M.Make.made g.M.Make.written _ _ _ _ _ _ _ c.set.ensures (set_done g.M.Make.spec L c.args.command c.in-Some.x.number c.next_bytes-text.result.now (fields_left c.args.fields) (fields_left c.next_bytes-text.new.fields) c.next_bytes-text.ensures.value c.next_bytes-text.ensures.after c.in-Some.ensures.0 (λ e. c.if-count-eq1.false (c.requires.count ∙ e)))
+    let L = store_of g.M.Make c.args.memory.now.pool in
+    gives_as g.M.Make _ _ _ _ _ _ _ c.set.ensures (set_done g.M.Make.spec L c.args.command c.in-Some.x.number c.next_bytes-text.result.now (fields_left c.args.fields) (fields_left c.next_bytes-text.new.fields) c.next_bytes-text.ensures.value c.next_bytes-text.ensures.after c.in-Some.ensures.0 (λ e. c.if-count-eq1.false (c.requires.count ∙ e)))

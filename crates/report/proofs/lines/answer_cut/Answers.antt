@@ -6,7 +6,7 @@ use Rattle.report.proofs.lines.answer_cut.Goals as goal
 pub returns : goal.returns
 returns g c =
     let S = g.M.Make.spec in
-    let L = ledger_of g.M.Make.kindof g.M.Make.systemtype g.M.Make.texts c.args.session.now c.args.memory.now.pool in
+    let L = ledger_of g.M.Make c.args.session.now c.args.memory.now.pool in
     let len = c.copy_line-len.result in
     let zero : len - 0 ≡ len = omega arith in
     let e : take (len - 0) c.copy_line-len.new.buffer ≡ take 257 c.args.line.now = ap (λ k. take k c.copy_line-len.new.buffer) zero ∙ c.copy_line-len.ensures.copied in

@@ -11,8 +11,8 @@ overflow_add-rest g c = omega (arith, c.in-Some.ensures.0, c.loop-end.invariant.
 pub loop-end-preserved : goal.loop-end-preserved
 loop-end-preserved g c =
     let S = g.M.Make.spec in
-    let L = ledger_of g.M.Make.kindof g.M.Make.systemtype g.M.Make.texts c.loop-end.session c.loop-end.memory.pool in
-    let L' = ledger_of g.M.Make.kindof g.M.Make.systemtype g.M.Make.texts c.answer_cut.new.session c.answer_cut.new.memory.pool in
+    let L = ledger_of g.M.Make c.loop-end.session c.loop-end.memory.pool in
+    let L' = ledger_of g.M.Make c.answer_cut.new.session c.answer_cut.new.memory.pool in
     let t = c.loop-end.rest.now in
     let end = c.in-Some.end in
     let rest = take_rest t (end + 1) in

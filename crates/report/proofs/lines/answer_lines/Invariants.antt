@@ -5,8 +5,8 @@ use Rattle.report.proofs.lines.answer_lines.Given as goal
 
 abbrev pub invariant-loop-end : goal.invariant-loop-end
 invariant-loop-end g l =
-    (vec_items l.out ++ replies g.M.Make.spec (ledger_of g.M.Make.kindof g.M.Make.systemtype g.M.Make.texts l.session l.memory.pool) (lines_from [] l.rest) ≡ vec_items l.initial.out ++ replies g.M.Make.spec (ledger_of g.M.Make.kindof g.M.Make.systemtype g.M.Make.texts l.initial.session l.initial.memory.pool) (lines_from [] l.text))
-    × (behind g.M.Make.spec (ledger_of g.M.Make.kindof g.M.Make.systemtype g.M.Make.texts l.session l.memory.pool) (lines_from [] l.rest) ≡ behind g.M.Make.spec (ledger_of g.M.Make.kindof g.M.Make.systemtype g.M.Make.texts l.initial.session l.initial.memory.pool) (lines_from [] l.text))
+    (vec_items l.out ++ replies g.M.Make.spec (ledger_of g.M.Make l.session l.memory.pool) (lines_from [] l.rest) ≡ vec_items l.initial.out ++ replies g.M.Make.spec (ledger_of g.M.Make l.initial.session l.initial.memory.pool) (lines_from [] l.text))
+    × (behind g.M.Make.spec (ledger_of g.M.Make l.session l.memory.pool) (lines_from [] l.rest) ≡ behind g.M.Make.spec (ledger_of g.M.Make l.initial.session l.initial.memory.pool) (lines_from [] l.text))
     × (length l.rest ≤ length l.text)
 
 abbrev pub decreases-loop-end : goal.decreases-loop-end

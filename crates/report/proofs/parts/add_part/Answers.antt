@@ -8,7 +8,7 @@ use Rattle.report.proofs.parts.add_part.Goals.{then-is_row+in_ok-add_named_row, 
 pub loop-before-preserved : goal.loop-before-preserved
 loop-before-preserved g c =
     let S = g.M.Make.spec in
-    let L = store_of g.M.Make.kindof g.M.Make.systemtype g.M.Make.texts c.args.memory.now.pool in
+    let L = store_of g.M.Make c.args.memory.now.pool in
     let k = c.args.kind in
     let i = c.loop-before.before in
     let e = vec_items c.args.out.now in

@@ -8,7 +8,7 @@ use Rattle.report.proofs.parts.add_parts.Goals as goal
 pub loop-kind-preserved : goal.loop-kind-preserved
 loop-kind-preserved g c =
     let S = g.M.Make.spec in
-    let L = store_of g.M.Make.kindof g.M.Make.systemtype g.M.Make.texts c.args.memory.now.pool in
+    let L = store_of g.M.Make c.args.memory.now.pool in
     let ks = c.args.kinds.now in
     let i = c.loop-kind.kind-index in
     let k = get_or ks i System in
@@ -18,6 +18,6 @@ loop-kind-preserved g c =
 pub returns : goal.returns
 returns g c =
     let S = g.M.Make.spec in
-    let L = store_of g.M.Make.kindof g.M.Make.systemtype g.M.Make.texts c.args.memory.now.pool in
+    let L = store_of g.M.Make c.args.memory.now.pool in
     let o = vec_items c.loop-kind.out in
     sym (append-nil o) ∙ ap (λ z. o ++ z) (sym (at_drop_all (parts_of S L) c.args.kinds.now c.loop-kind.kind-index c.loop-kind-test.false)) ∙ c.loop-kind.invariant

@@ -4,4 +4,4 @@ use Rattle.sheet.specs.Sheet.{parts_of}
 use Rattle.report.proofs.parts.add_parts.Given as goal
 
 abbrev pub invariant-loop-kind : goal.invariant-loop-kind
-invariant-loop-kind g l = vec_items l.out ++ parts_of g.M.Make.spec (store_of g.M.Make.kindof g.M.Make.systemtype g.M.Make.texts l.memory.pool) (drop l.kind-index l.kinds) ≡ vec_items l.initial.out ++ parts_of g.M.Make.spec (store_of g.M.Make.kindof g.M.Make.systemtype g.M.Make.texts l.memory.pool) l.kinds
+invariant-loop-kind g l = vec_items l.out ++ parts_of g.M.Make.spec (store_of g.M.Make l.memory.pool) (drop l.kind-index l.kinds) ≡ vec_items l.initial.out ++ parts_of g.M.Make.spec (store_of g.M.Make l.memory.pool) l.kinds

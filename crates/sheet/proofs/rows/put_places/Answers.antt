@@ -10,7 +10,7 @@ use Rattle.sheet.proofs.rows.put_places.Goals as goal
 pub returns : goal.returns
 returns g c =
     let o = c.args.out.now in
-    let L = store_of g.M.Make.kindof g.M.Make.systemtype g.M.Make.texts c.args.memory.now.pool in
+    let L = store_of g.M.Make c.args.memory.now.pool in
     let x = c.args.x.number in
     let P : ℕ → ℕ → ℕ → Type 0 = λ a b d. Listed o c.index_piece.new.out c.args.at c.index_piece.result (shown a ∷ shown b ∷ shown d ∷ []) in
     let two = both o c.index_piece-owned.new.out c.index_piece-back.new.out (shown (number_of c.owner.result) ∷ []) (shown (number_of c.previous.result) ∷ []) c.args.at c.index_piece-owned.result c.index_piece-back.result c.index_piece-owned.ensures.texts c.index_piece-back.ensures.texts (omega (arith, c.index_piece-owned.ensures.bound, c.requires.room)) in

@@ -15,7 +15,7 @@ unfolding row
 returns g c =
     let o = c.args.out.now in
     let S = g.M.Make.spec in
-    let L = store_of g.M.Make.kindof g.M.Make.systemtype g.M.Make.texts c.args.memory.now.pool in
+    let L = store_of g.M.Make c.args.memory.now.pool in
     let x = c.args.x.number in
     let r = c.read-record.result in
     let ts = g.M.Make.texts r in
@@ -36,7 +36,7 @@ returns g c =
     let w2 = going o c.put_places-placed.new.out c.put_type-typed.new.out name here (type_cell S kk nn) c.put_places-placed.result c.put_type-typed.result w1 c.put_type-typed.ensures.texts (omega (arith, b1, c.requires.room)) in
     let w3 = going o c.put_type-typed.new.out c.field_pieces-filled.new.out name (here ++ type_cell S kk nn) (take (count - 0) (drop 0 ts)) c.put_type-typed.result c.field_pieces-filled.result w2 c.field_pieces-filled.ensures.texts (omega (arith, b2, c.requires.room)) in
     let w4 = finish o c.field_pieces-filled.new.out c.put_byte.new.out name ((here ++ type_cell S kk nn) ++ take (count - 0) (drop 0 ts)) c.field_pieces-filled.result c.put_byte.result w3 c.put_byte.ensures.buffer c.put_byte.ensures.end (omega (arith, b3, c.requires.room)) in
-    let m = meaning g.M.Make.kindof g.M.Make.systemtype g.M.Make.texts r in
+    let m = meaning g.M.Make r in
     let read : m ≡ holding L x = c.read-record.ensures.value in
     let types : type_cell S kk nn ≡ type_cell S m.kind m.system_type = ap (λ z. type_cell S z nn) c.kind-kind.ensures.value ∙ ap (type_cell S m.kind) c.system_type.ensures.value ∙ sym (type_cell_lem S m.kind (g.M.Make.systemtype r)) in
     let P : List ℕ → Type 0 = λ t. Wrote o c.put_byte.new.out c.put_byte.result t in

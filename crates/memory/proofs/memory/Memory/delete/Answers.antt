@@ -12,7 +12,7 @@ unfolding store_of
 returns g c =
     let p = c.args.self.now.pool in
     let q = c.delete.new.self in
-    let mean = meaning g.M.Make.kindof g.M.Make.systemtype g.M.Make.texts in
+    let mean = meaning g.M.Make in
     record {
       store = same_store _ _ _ _ c.delete.ensures.blocks (ap (λ z. map mean (take z q.elements.now)) c.delete.ensures.count ∙ ap (λ z. map mean (take p.chains.count z)) c.delete.ensures.elements);
       records = c.delete.ensures.elements;

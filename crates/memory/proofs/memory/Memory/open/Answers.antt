@@ -12,15 +12,13 @@ pub returns : goal.returns
 unfolding store_of
 returns g c =
     let q = c.open.result in
-    let K = g.M.Make.kindof in
-    let T = g.M.Make.systemtype in
-    let X = g.M.Make.texts in
+    let make = g.M.Make in
     let n = q.chains.count in
-    let new : meaning K T X c.fresh-blank.result ≡ fresh g.M.Make.spec System 0 = ap (meaning K T X) c.fresh-blank.ensures.value ∙ means System (K (g.M.Make.made System 0)) 0 (T (g.M.Make.made System 0)) (X (g.M.Make.made System 0)) (starts_of g.M.Make.spec System) (g.met.M.Make.madekind System 0) (λ e. g.met.M.Make.madetype 0) (g.met.M.Make.madetexts System 0) in
-    let held : map (meaning K T X) (take n q.elements.now) ≡ replicate n (fresh g.M.Make.spec System 0) = held_filled (meaning K T X) n c.args.records.now q.elements.now c.fresh-blank.result (fresh g.M.Make.spec System 0) c.open.ensures.elements new in
-    let count : n ≡ min (min (length c.args.links.now) (length c.args.records.now)) g.M.Make.spec.most = c.open.ensures.count ∙ ap (min (min (length c.args.links.now) (length c.args.records.now))) c.block_maximum-most.ensures.value in
+    let new : meaning make c.fresh-blank.result ≡ fresh make.spec System 0 = ap (meaning make) c.fresh-blank.ensures.value ∙ means System (make.kindof (make.made System 0)) 0 (make.systemtype (make.made System 0)) (make.texts (make.made System 0)) (starts_of make.spec System) (g.met.M.Make.madekind System 0) (λ e. g.met.M.Make.madetype 0) (g.met.M.Make.madetexts System 0) in
+    let held : map (meaning make) (take n q.elements.now) ≡ replicate n (fresh make.spec System 0) = held_filled (meaning make) n c.args.records.now q.elements.now c.fresh-blank.result (fresh make.spec System 0) c.open.ensures.elements new in
+    let count : n ≡ min (min (length c.args.links.now) (length c.args.records.now)) make.spec.most = c.open.ensures.count ∙ ap (min (min (length c.args.links.now) (length c.args.records.now))) c.block_maximum-most.ensures.value in
     record {
-      store = same_store _ _ _ _ c.open.ensures.blocks held ∙ ap (emptied g.M.Make.spec) count;
+      store = same_store _ _ _ _ c.open.ensures.blocks held ∙ ap (emptied make.spec) count;
       links = c.open.ensures.later;
       records = c.open.ensures.elements ∙ ap (λ r. filled n r c.args.records.now) c.fresh-blank.ensures.value;
     }

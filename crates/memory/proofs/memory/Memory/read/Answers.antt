@@ -15,4 +15,4 @@ returns g c =
     let p = m.pool in
     let x = c.args.x.number in
     let u = used_bound p.chains m.sound x c.requires.living in
-    record { value = held_at (meaning g.M.Make.kindof g.M.Make.systemtype g.M.Make.texts) p.chains.count (x - 1) p.elements.now c.read.result _ (omega (arith, u)) m.roomy c.read.ensures }
+    record { value = held_at (meaning g.M.Make) p.chains.count (x - 1) p.elements.now c.read.result _ (omega (arith, u)) m.roomy c.read.ensures }

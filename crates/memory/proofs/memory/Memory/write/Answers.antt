@@ -40,21 +40,19 @@ returns g c =
     let m = c.args.self.now in
     let p = m.pool in
     let q = c.replace.new.self in
-    let S = g.M.Make.spec in
-    let K = g.M.Make.kindof in
-    let T = g.M.Make.systemtype in
-    let X = g.M.Make.texts in
+    let make = g.M.Make in
+    let S = make.spec in
     let x = c.args.x.number in
     let r = c.read-record.result in
     let ts = fields_left c.args.fields in
-    let h = holding (store_of K T X p) x in
+    let h = holding (store_of make p) x in
     let u = used_bound p.chains m.sound x c.requires.living in
-    let read : meaning K T X r ≡ h = held_at (meaning K T X) p.chains.count (x - 1) p.elements.now r _ (omega (arith, u)) m.roomy c.read-record.ensures in
-    let legal : fields_legal S (K r) 0 ts ≡ true = ap (λ (z : Holding). fields_legal S z.kind 0 ts) read ∙ c.requires.legal in
-    let new : meaning K T X c.write_fields.new.record ≡ record { kind = h.kind; system_type = h.system_type; texts = fields_set S h.kind 0 ts h.texts } = ap (meaning K T X) c.write_fields.ensures.after ∙ means_written S K T X r (fields_written g.M.Make.written r 0 ts) ts (all S K T X g.M.Make.written g.met.M.Make.accepted g.met.M.Make.writtenkind g.met.M.Make.writtentype r 0 ts legal) h read in
+    let read : meaning make r ≡ h = held_at (meaning make) p.chains.count (x - 1) p.elements.now r _ (omega (arith, u)) m.roomy c.read-record.ensures in
+    let legal : fields_legal S (make.kindof r) 0 ts ≡ true = ap (λ (z : Holding). fields_legal S z.kind 0 ts) read ∙ c.requires.legal in
+    let new : meaning make c.write_fields.new.record ≡ record { kind = h.kind; system_type = h.system_type; texts = fields_set S h.kind 0 ts h.texts } = ap (meaning make) c.write_fields.ensures.after ∙ means_written S make r (fields_written make.written r 0 ts) ts (all S make g.met.M.Make.accepted g.met.M.Make.writtenkind g.met.M.Make.writtentype r 0 ts legal) h read in
     let count = ap (λ (z : Chains). z.count) c.replace.ensures.same in
     record {
-      store = same_store _ _ _ _ (ap blocks_of c.replace.ensures.same) (ap (λ z. map (meaning K T X) (take z q.elements.now)) count ∙ held_set (meaning K T X) p.chains.count (x - 1) p.elements.now q.elements.now c.write_fields.new.record _ c.replace.ensures.elements new);
-      records = c.replace.ensures.elements ∙ ap (set p.elements.now (x - 1)) (c.write_fields.ensures.after ∙ ap (λ z. fields_written g.M.Make.written z 0 ts) (c.read-record.ensures (g.M.Make.made System 0)));
+      store = same_store _ _ _ _ (ap blocks_of c.replace.ensures.same) (ap (λ z. map (meaning make) (take z q.elements.now)) count ∙ held_set (meaning make) p.chains.count (x - 1) p.elements.now q.elements.now c.write_fields.new.record _ c.replace.ensures.elements new);
+      records = c.replace.ensures.elements ∙ ap (set p.elements.now (x - 1)) (c.write_fields.ensures.after ∙ ap (λ z. fields_written make.written z 0 ts) (c.read-record.ensures (make.made System 0)));
       spared = record { count = count; links = ap (λ (z : Chains). drop p.chains.count z.links.now) c.replace.ensures.same; records = ap (drop p.chains.count) c.replace.ensures.elements ∙ drop-set-lt p.chains.count p.elements.now (x - 1) c.write_fields.new.record (omega (arith, u)) };
     }
