@@ -5,3 +5,4 @@ pub mod Frequency
 pub mod Cuts
 pub mod Fields
 pub mod Laws
+pub mod Writing

@@ -9,3 +9,4 @@ pub mod number;
 pub mod signed;
 #[cfg(test)]
 mod tests;
+pub mod writer;
