@@ -3,6 +3,7 @@ pub mod Commands
 pub mod Ledger
 pub mod Records
 pub mod Replies
+pub mod Refusals
 pub mod Texts
 pub mod Steps
 pub mod Lines

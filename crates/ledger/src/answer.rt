@@ -1,6 +1,6 @@
-// What a call answers: number 1 for a buffer that is too short, or how many bytes of the buffer are the reply.
-#[derive(Clone, Copy, PartialEq, Eq)]
-pub enum Answer {
+// Why a call is not answered with a reply.
+#[derive(Clone, Copy, PartialEq, Eq, Debug)]
+pub enum CallError {
+    // Number 1: the buffer is too short for a reply.
     ShortBuffer,
-    Reply(usize),
 }

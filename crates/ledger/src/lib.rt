@@ -4,3 +4,4 @@
 pub mod answer;
 pub mod command;
 pub mod mode;
+pub mod refusal;

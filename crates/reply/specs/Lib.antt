@@ -1,3 +1,5 @@
 pub mod Shown
 pub mod Wrote
+pub mod Lists
 pub mod Linked
+pub mod Told

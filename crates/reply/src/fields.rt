@@ -1,38 +1,30 @@
 // The fields of a record in a reply.
 ghost use Rattle.std.specs.Prelude.{◌≡◌, ℕ, ◌+◌, ◌-◌, ◌*◌, ◌≤◌, [], ◌∷◌, length, slice_index_or, slice_range};
-ghost use Rattle.reply.specs.Wrote.{Listed};
+ghost use Rattle.reply.specs.Lists.{Lists};
 
 use make::Make;
-use text::buffer::put_byte;
+use text::writer::Writer;
 
 // A comma and the text that a field shows.
-pub fn field_piece<M: Make>(record: &M::Record, field: usize, out: &mut [u8], at: usize) -> usize
-    requires room { at + 25 ≤ length out.old }
-    ensures bound { result ≤ at + 25 }
-    ensures texts { Listed out.old out.new at result (slice_index_or (M.Make.texts «record».now) field [] ∷ []) }
+pub fn put_field<M: Make>(w: &mut Writer<'_>, record: &M::Record, field: usize)
+    requires room { w.old.at + 25 ≤ length w.old.out.now }
+    ensures bound { w.new.at ≤ w.old.at + 25 }
+    ensures texts { Lists w.old w.new (slice_index_or (M.Make.texts «record».now) field [] ∷ []) }
 {
-    let next = put_byte(out, at, b',');
-    M::show(record, field, out, next)
+    w.put_byte(b',');
+    w.at = M::show(record, field, w.out, w.at);
 }
 
 // The fields from number `from` up to `to`, each a comma and its text.
-pub fn field_pieces<M: Make>(
-    record: &M::Record,
-    from: usize,
-    to: usize,
-    out: &mut [u8],
-    at: usize,
-) -> usize
+pub fn put_fields<M: Make>(w: &mut Writer<'_>, record: &M::Record, from: usize, to: usize)
     requires order { from ≤ to }
     requires within { to ≤ length (M.Make.texts «record».now) }
     requires few { to ≤ 20 }
-    requires room { at + 25 * (to - from) ≤ length out.old }
-    ensures bound { result ≤ at + 25 * (to - from) }
-    ensures texts { Listed out.old out.new at result (slice_range (M.Make.texts «record».now) from to) }
+    requires room { w.old.at + 25 * (to - from) ≤ length w.old.out.now }
+    ensures bound { w.new.at ≤ w.old.at + 25 * (to - from) }
+    ensures texts { Lists w.old w.new (slice_range (M.Make.texts «record».now) from to) }
 {
-    let mut next = at;
     for field in from..to {
-        next = field_piece::<M>(record, field, out, next);
+        put_field::<M>(w, record, field);
     }
-    next
 }

@@ -4,5 +4,4 @@
 pub mod fields;
 pub mod links;
 pub mod pieces;
-pub mod short;
-pub mod whole;
+pub mod told;

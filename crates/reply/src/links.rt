@@ -3,11 +3,12 @@ ghost use Rattle.std.specs.Prelude.{◌≡◌, ◌+◌, ◌<◌, ◌≤◌, [], 
 ghost use Rattle.ledger.specs.Replies.{shown};
 ghost use Rattle.ledger.specs.Ledger.{number_of};
 ghost use Rattle.reply.specs.Shown.{Proper};
-ghost use Rattle.reply.specs.Wrote.{Listed};
+ghost use Rattle.reply.specs.Lists.{Lists};
 ghost use Rattle.reply.specs.Linked.{pieces_of, AllProper};
 
-use crate::pieces::{index_piece, number_piece};
+use crate::pieces::{put_count, put_index};
 use chain::Index;
+use text::writer::Writer;
 
 // The record before and the one behind.
 #[derive(Clone, Copy)]
@@ -33,71 +34,59 @@ pub enum Links {
 }
 
 // Two indexes, each -1 for no record.
-fn index_pair(out: &mut [u8], at: usize, first: Option<Index>, second: Option<Index>) -> usize
+pub fn put_pair(w: &mut Writer<'_>, first: Option<Index>, second: Option<Index>)
     requires first { Proper first }
     requires second { Proper second }
-    requires room { at + 12 ≤ length out.old }
-    ensures bound { result ≤ at + 12 }
-    ensures texts { Listed out.old out.new at result (shown (number_of first) ∷ shown (number_of second) ∷ []) }
+    requires room { w.old.at + 12 ≤ length w.old.out.now }
+    ensures bound { w.new.at ≤ w.old.at + 12 }
+    ensures texts { Lists w.old w.new (shown (number_of first) ∷ shown (number_of second) ∷ []) }
 {
-    let next = index_piece(out, at, first);
-    index_piece(out, next, second)
+    put_index(w, first);
+    put_index(w, second);
 }
 
-fn put_neighbours(out: &mut [u8], at: usize, neighbours: Neighbours) -> usize
+fn put_neighbours(w: &mut Writer<'_>, neighbours: Neighbours)
     requires first { Proper neighbours.previous }
     requires second { Proper neighbours.next }
-    requires room { at + 12 ≤ length out.old }
-    ensures bound { result ≤ at + 12 }
-    ensures texts { Listed out.old out.new at result (shown (number_of neighbours.previous) ∷ shown (number_of neighbours.next) ∷ []) }
+    requires room { w.old.at + 12 ≤ length w.old.out.now }
+    ensures bound { w.new.at ≤ w.old.at + 12 }
+    ensures texts { Lists w.old w.new (shown (number_of neighbours.previous) ∷ shown (number_of neighbours.next) ∷ []) }
 {
-    index_pair(out, at, neighbours.previous, neighbours.next)
+    put_pair(w, neighbours.previous, neighbours.next);
 }
 
-fn put_chained(out: &mut [u8], at: usize, chained: Chained) -> usize
+fn put_chained(w: &mut Writer<'_>, chained: Chained)
     requires first { Proper chained.head }
     requires second { Proper chained.tail }
     requires small { chained.place < 100000 }
-    requires room { at + 18 ≤ length out.old }
-    ensures bound { result ≤ at + 18 }
-    ensures texts { Listed out.old out.new at result (shown (number_of chained.head) ∷ shown (number_of chained.tail) ∷ decimal chained.place ∷ []) }
+    requires room { w.old.at + 18 ≤ length w.old.out.now }
+    ensures bound { w.new.at ≤ w.old.at + 18 }
+    ensures texts { Lists w.old w.new (shown (number_of chained.head) ∷ shown (number_of chained.tail) ∷ decimal chained.place ∷ []) }
 {
-    let next = index_pair(out, at, chained.head, chained.tail);
-    number_piece(out, next, chained.place)
-}
-
-fn put_middle(out: &mut [u8], at: usize, system: Option<Index>, chained: Chained) -> usize
-    requires system { Proper system }
-    requires first { Proper chained.head }
-    requires second { Proper chained.tail }
-    requires small { chained.place < 100000 }
-    requires room { at + 24 ≤ length out.old }
-    ensures bound { result ≤ at + 24 }
-    ensures texts { Listed out.old out.new at result (shown (number_of system) ∷ shown (number_of chained.head) ∷ shown (number_of chained.tail) ∷ decimal chained.place ∷ []) }
-{
-    let next = index_piece(out, at, system);
-    put_chained(out, next, chained)
+    put_pair(w, chained.head, chained.tail);
+    put_count(w, chained.place);
 }
 
 // All links of a record.
-pub fn put_links(out: &mut [u8], at: usize, links: Links) -> usize
+pub fn put_links(w: &mut Writer<'_>, links: Links)
     requires proper { AllProper links }
-    requires room { at + 36 ≤ length out.old }
-    ensures bound { result ≤ at + 36 }
-    ensures texts { Listed out.old out.new at result (pieces_of links) }
+    requires room { w.old.at + 36 ≤ length w.old.out.now }
+    ensures bound { w.new.at ≤ w.old.at + 36 }
+    ensures texts { Lists w.old w.new (pieces_of links) }
 {
     match links {
         Links::System(neighbours, chained) => {
-            let next = put_neighbours(out, at, neighbours);
-            put_chained(out, next, chained)
+            put_neighbours(w, neighbours);
+            put_chained(w, chained);
         }
         Links::Middle(neighbours, system, chained) => {
-            let next = put_neighbours(out, at, neighbours);
-            put_middle(out, next, system, chained)
+            put_neighbours(w, neighbours);
+            put_index(w, system);
+            put_chained(w, chained);
         }
         Links::Low(neighbours, system, owner) => {
-            let next = put_neighbours(out, at, neighbours);
-            index_pair(out, next, system, owner)
+            put_neighbours(w, neighbours);
+            put_pair(w, system, owner);
         }
     }
 }

@@ -1,57 +1,55 @@
-// The pieces of a reply: each a comma and a text, at a place of the buffer.
-ghost use Rattle.std.specs.Prelude.{◌≡◌, ℕ, ◌+◌, ◌<◌, ◌≤◌, [], ◌∷◌, ◌++◌, length, codes, decimal};
-ghost use Rattle.text.specs.Buffer.{put};
-ghost use Rattle.ledger.specs.Replies.{shown, listed};
+// The pieces of a reply: each a comma and a text.
+ghost use Rattle.std.specs.Prelude.{◌≡◌, ℕ, ◌+◌, ◌<◌, ◌≤◌, [], ◌∷◌, ◌++◌, length, decimal};
+ghost use Rattle.text.specs.Writing.{Puts};
 ghost use Rattle.ledger.specs.Ledger.{number_of};
+ghost use Rattle.ledger.specs.Replies.{shown};
 ghost use Rattle.reply.specs.Shown.{Proper};
-ghost use Rattle.reply.specs.Wrote.{Listed};
+ghost use Rattle.reply.specs.Lists.{Lists};
 
 use chain::Index;
-use text::buffer::{put_byte, put_bytes};
-use text::number::put_number;
+use text::writer::Writer;
 
 // An index, or -1 for no record.
-fn put_shown(out: &mut [u8], at: usize, index: Option<Index>) -> usize
+fn put_shown(w: &mut Writer<'_>, index: Option<Index>)
     requires index { Proper index }
-    requires room { at + 5 ≤ length out.old }
-    ensures end { result ≡ at + length (shown (number_of index)) }
-    ensures bound { result ≤ at + 5 }
-    ensures buffer { out.new ≡ put out.old at (shown (number_of index)) }
+    requires room { w.old.at + 5 ≤ length w.old.out.now }
+    ensures puts { Puts w.old w.new (shown (number_of index)) }
+    ensures bound { w.new.at ≤ w.old.at + 5 }
 {
     match index {
-        Some(index) => put_number(out, at, index.number()),
-        None => put_bytes(out, at, b"-1"),
+        Some(index) => w.put_number(index.number()),
+        None => w.put_bytes(b"-1"),
     }
 }
 
 // A comma and a text.
-pub fn piece(out: &mut [u8], at: usize, text: &[u8]) -> usize
-    requires room { at + 1 + length text.now ≤ length out.old }
-    ensures bound { result ≡ at + 1 + length text.now }
-    ensures texts { Listed out.old out.new at result (text.now ∷ []) }
+pub fn put_piece(w: &mut Writer<'_>, text: &[u8])
+    requires room { w.old.at + 1 + length text.now ≤ length w.old.out.now }
+    ensures bound { w.new.at ≡ w.old.at + 1 + length text.now }
+    ensures texts { Lists w.old w.new (text.now ∷ []) }
 {
-    let next = put_byte(out, at, b',');
-    put_bytes(out, next, text)
+    w.put_byte(b',');
+    w.put_bytes(text);
 }
 
 // A comma and an index, or -1 for no record.
-pub fn index_piece(out: &mut [u8], at: usize, index: Option<Index>) -> usize
+pub fn put_index(w: &mut Writer<'_>, index: Option<Index>)
     requires index { Proper index }
-    requires room { at + 6 ≤ length out.old }
-    ensures bound { result ≤ at + 6 }
-    ensures texts { Listed out.old out.new at result (shown (number_of index) ∷ []) }
+    requires room { w.old.at + 6 ≤ length w.old.out.now }
+    ensures bound { w.new.at ≤ w.old.at + 6 }
+    ensures texts { Lists w.old w.new (shown (number_of index) ∷ []) }
 {
-    let next = put_byte(out, at, b',');
-    put_shown(out, next, index)
+    w.put_byte(b',');
+    put_shown(w, index);
 }
 
 // A comma and a number.
-pub fn number_piece(out: &mut [u8], at: usize, n: u32) -> usize
+pub fn put_count(w: &mut Writer<'_>, n: u32)
     requires small { n < 100000 }
-    requires room { at + 6 ≤ length out.old }
-    ensures bound { result ≤ at + 6 }
-    ensures texts { Listed out.old out.new at result (decimal n ∷ []) }
+    requires room { w.old.at + 6 ≤ length w.old.out.now }
+    ensures bound { w.new.at ≤ w.old.at + 6 }
+    ensures texts { Lists w.old w.new (decimal n ∷ []) }
 {
-    let next = put_byte(out, at, b',');
-    put_number(out, next, n)
+    w.put_byte(b',');
+    w.put_number(n);
 }

@@ -1,34 +1,30 @@
 use Rattle.std.proofs.Common.{[], ◌∷◌, decimal, sym, subst, arith}
 use Rattle.ledger.specs.Replies.{shown}
-use Rattle.reply.specs.declared.links.Links.{Links}
 use Rattle.ledger.specs.Ledger.{number_of}
-use Rattle.reply.specs.Wrote.{Listed}
+use Rattle.reply.specs.declared.links.Links.{Links}
+use Rattle.reply.specs.Lists.{Lists}
 use Rattle.reply.specs.Linked.{pieces_of}
 use Rattle.reply.proofs.Joins.{both}
 use Rattle.reply.proofs.links.put_links.Goals as goal
 
-pub returns-in-System : goal.returns-in-System
-returns-in-System c =
+pub returns-in-System-clause-texts : goal.returns-in-System-clause-texts
+returns-in-System-clause-texts c =
     let n = c.in-System.neighbours in
     let x = c.in-System.chained in
-    record {
-      bound = omega (arith, c.put_neighbours-next.ensures.bound, c.put_chained.ensures.bound);
-      texts = subst (λ (z : Links). Listed c.args.out.now c.put_chained.new.out c.args.at c.put_chained.result (pieces_of z)) (sym c.in-System.is) (both c.args.out.now c.put_neighbours-next.new.out c.put_chained.new.out (shown (number_of n.previous) ∷ shown (number_of n.next) ∷ []) (shown (number_of x.head) ∷ shown (number_of x.tail) ∷ decimal x.place ∷ []) c.args.at c.put_neighbours-next.result c.put_chained.result c.put_neighbours-next.ensures.texts c.put_chained.ensures.texts (omega (arith, c.put_neighbours-next.ensures.bound)));
-    }
+    subst (λ (z : Links). Lists c.args.w.now c.put_chained.new.w (pieces_of z)) (sym c.in-System.is)
+    (both _ _ _ (shown (number_of n.previous) ∷ shown (number_of n.next) ∷ []) (shown (number_of x.head) ∷ shown (number_of x.tail) ∷ decimal x.place ∷ []) c.put_neighbours.ensures.texts c.put_chained.ensures.texts (omega (arith, c.put_neighbours.ensures.bound, c.requires.room)))
 
-pub returns-in-Middle : goal.returns-in-Middle
-returns-in-Middle c =
+pub returns-in-Middle-clause-texts : goal.returns-in-Middle-clause-texts
+returns-in-Middle-clause-texts c =
     let n = c.in-Middle.neighbours in
+    let s = c.in-Middle.system in
     let x = c.in-Middle.chained in
-    record {
-      bound = omega (arith, c.put_neighbours-next-in-Middle.ensures.bound, c.put_middle.ensures.bound);
-      texts = subst (λ (z : Links). Listed c.args.out.now c.put_middle.new.out c.args.at c.put_middle.result (pieces_of z)) (sym c.in-Middle.is) (both c.args.out.now c.put_neighbours-next-in-Middle.new.out c.put_middle.new.out (shown (number_of n.previous) ∷ shown (number_of n.next) ∷ []) (shown (number_of c.in-Middle.system) ∷ shown (number_of x.head) ∷ shown (number_of x.tail) ∷ decimal x.place ∷ []) c.args.at c.put_neighbours-next-in-Middle.result c.put_middle.result c.put_neighbours-next-in-Middle.ensures.texts c.put_middle.ensures.texts (omega (arith, c.put_neighbours-next-in-Middle.ensures.bound)));
-    }
+    let front = both _ _ _ (shown (number_of n.previous) ∷ shown (number_of n.next) ∷ []) (shown (number_of s) ∷ []) c.put_neighbours-in-Middle.ensures.texts c.put_index.ensures.texts (omega (arith, c.put_neighbours-in-Middle.ensures.bound, c.requires.room)) in
+    subst (λ (z : Links). Lists c.args.w.now c.put_chained-in-Middle.new.w (pieces_of z)) (sym c.in-Middle.is)
+    (both _ _ _ (shown (number_of n.previous) ∷ shown (number_of n.next) ∷ shown (number_of s) ∷ []) (shown (number_of x.head) ∷ shown (number_of x.tail) ∷ decimal x.place ∷ []) front c.put_chained-in-Middle.ensures.texts (omega (arith, c.put_neighbours-in-Middle.ensures.bound, c.put_index.ensures.bound, c.requires.room)))
 
-pub returns-in-Low : goal.returns-in-Low
-returns-in-Low c =
+pub returns-in-Low-clause-texts : goal.returns-in-Low-clause-texts
+returns-in-Low-clause-texts c =
     let n = c.in-Low.neighbours in
-    record {
-      bound = omega (arith, c.put_neighbours-next-in-Low.ensures.bound, c.index_pair.ensures.bound);
-      texts = subst (λ (z : Links). Listed c.args.out.now c.index_pair.new.out c.args.at c.index_pair.result (pieces_of z)) (sym c.in-Low.is) (both c.args.out.now c.put_neighbours-next-in-Low.new.out c.index_pair.new.out (shown (number_of n.previous) ∷ shown (number_of n.next) ∷ []) (shown (number_of c.in-Low.system) ∷ shown (number_of c.in-Low.owner) ∷ []) c.args.at c.put_neighbours-next-in-Low.result c.index_pair.result c.put_neighbours-next-in-Low.ensures.texts c.index_pair.ensures.texts (omega (arith, c.put_neighbours-next-in-Low.ensures.bound)));
-    }
+    subst (λ (z : Links). Lists c.args.w.now c.put_pair.new.w (pieces_of z)) (sym c.in-Low.is)
+    (both _ _ _ (shown (number_of n.previous) ∷ shown (number_of n.next) ∷ []) (shown (number_of c.in-Low.system) ∷ shown (number_of c.in-Low.owner) ∷ []) c.put_neighbours-in-Low.ensures.texts c.put_pair.ensures.texts (omega (arith, c.put_neighbours-in-Low.ensures.bound, c.requires.room)))

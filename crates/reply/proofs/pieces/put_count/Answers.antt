@@ -1,0 +1,6 @@
+use Rattle.std.proofs.Common.{arith}
+use Rattle.reply.proofs.Joins.{one}
+use Rattle.reply.proofs.pieces.put_count.Goals as goal
+
+pub returns-clause-texts : goal.returns-clause-texts
+returns-clause-texts c = one _ _ _ _ c.put_byte.ensures c.put_number.ensures.puts (omega (arith, c.put_byte.ensures.end, c.requires.room))
