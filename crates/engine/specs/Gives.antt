@@ -1,24 +1,37 @@
--- What a command does to the buffer and the memory. Assumes nothing.
-use Rattle.std.specs.Prelude.{◌≡◌, ℕ, List}
+-- What a command tells and does to the memory. Assumes nothing.
+use Rattle.std.specs.Prelude.{◌≡◌, ℕ, List, Ok, Err, Result, IfOk}
 use Rattle.make.specs.declared.rules.Make.{Ghosts as MakeOf}
 use Rattle.pool.specs.declared.pool.Pool.{Pool}
-use Rattle.ledger.specs.Ledger.{Ledger}
-use Rattle.ledger.specs.Steps.{Outcome}
+use Rattle.ledger.specs.declared.command.Command.{Command}
+use Rattle.ledger.specs.declared.refusal.Refusal.{Refusal}
+use Rattle.ledger.specs.Commands.{name_of}
+use Rattle.ledger.specs.Ledger.{Ledger, Store}
 use Rattle.ledger.specs.Lines.{Heard}
+use Rattle.ledger.specs.Refusals.{refusal_of}
+use Rattle.ledger.specs.Replies.{reply}
+use Rattle.ledger.specs.Steps.{Outcome}
 use Rattle.memory.specs.View.{store_of, Spared}
 use Rattle.memory.specs.Table.{changed}
-use Rattle.reply.specs.Wrote.{Wrote}
+use Rattle.reply.specs.Told.{told_pieces, Showable}
+use Rattle.reply.specs.declared.told.Told.{Told}
 
--- the buffer o became o' with r bytes of reply, and the tables p became p', as the outcome says; no entry past the block count changed
-pub record Gives {M R : Type 0} (make : MakeOf M R) (p p' : Pool R) (o o' : List ℕ) (r : ℕ) (x : Outcome) : Type 0 where
-  pub wrote : Wrote o o' r x.said
-  pub store : store_of make p' ≡ x.next
-  pub records : p'.elements.now ≡ changed make p.chains.count x.change p.elements.now
+-- the reply to a command that told this, or was refused
+abbrev pub said_by : {M R : Type 0} → MakeOf M R → Command → Result (Told R) Refusal → List ℕ
+said_by make c (Ok t) = reply (name_of c) (told_pieces make t)
+said_by make c (Err e) = refusal_of e
+
+-- a command c that told r, or was refused, did to the tables p, which became p', what the outcome says of the store that p stands for;
+-- all that it told can be shown, and no entry past the block count changed
+pub record Gives {M R : Type 0} (make : MakeOf M R) (p p' : Pool R) (c : Command) (r : Result (Told R) Refusal) (x : Store → Outcome) : Type 0 where
+  pub said : said_by make c r ≡ (x (store_of make p)).said
+  pub shows : IfOk r Showable
+  pub store : store_of make p' ≡ (x (store_of make p)).next
+  pub records : p'.elements.now ≡ changed make p.chains.count (x (store_of make p)).change p.elements.now
   pub spared : Spared p p'
 
--- the same of a whole line, after which the session and the memory stand for L'
-pub record Hears {M R : Type 0} (make : MakeOf M R) (p p' : Pool R) (o o' : List ℕ) (r : ℕ) (L' : Ledger) (x : Heard) : Type 0 where
-  pub wrote : Wrote o o' r x.said
+-- the same of a whole line, whose reply is t, and after which the session and the memory stand for L'
+pub record Hears {M R : Type 0} (make : MakeOf M R) (p p' : Pool R) (t : List ℕ) (L' : Ledger) (x : Heard) : Type 0 where
+  pub said : t ≡ x.said
   pub ledger : L' ≡ x.next
   pub records : p'.elements.now ≡ changed make p.chains.count x.change p.elements.now
   pub spared : Spared p p'

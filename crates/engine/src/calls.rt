@@ -11,39 +11,21 @@ ghost use Rattle.engine.specs.View.{ledger_of};
 
 use crate::hearing::hear;
 use crate::session::Session;
-use ledger::answer::Answer;
+use ledger::answer::CallError;
 use make::Make;
 use memory::Memory;
+use reply::told::say;
 
 // A reply buffer has at least this many bytes.
 pub const LEAST_BUFFER: usize = 600;
 
-// What a line is answered: number 1 where the buffer is too short, and then nothing is done.
-fn answer<M: Make>(
-    memory: &mut Memory<'_, M>,
-    session: &mut Session,
-    line: &[u8],
-    out: &mut [u8],
-) -> Answer
-    ensures answer { result ≡ answer_of out.old (step M.Make.spec (ledger_of M.Make session.old memory.old.pool) line.now).said }
-    ensures buffer { out.new ≡ buffer_of out.old (step M.Make.spec (ledger_of M.Make session.old memory.old.pool) line.now).said }
-    ensures ledger { ledger_of M.Make session.new memory.new.pool ≡ next_of out.old (ledger_of M.Make session.old memory.old.pool) (step M.Make.spec (ledger_of M.Make session.old memory.old.pool) line.now).next }
-    ensures records { memory.new.pool.elements.now ≡ changed M.Make memory.old.pool.chains.count (change_of out.old (step M.Make.spec (ledger_of M.Make session.old memory.old.pool) line.now).change) memory.old.pool.elements.now }
-    ensures spared { Spared memory.old.pool memory.new.pool }
-{
-    if out.len() < LEAST_BUFFER {
-        return Answer::ShortBuffer;
-    }
-    Answer::Reply(hear(memory, session, line, out))
-}
-
-// Does what a line asks, and puts its reply at the front of the buffer. A buffer that is too short gets number 1, and nothing is done.
+// Does what a line asks, puts its reply at the front of the buffer, and answers how many bytes that is. A buffer that is too short gets number 1, and nothing is done.
 pub fn command<M: Make>(
     memory: &mut Memory<'_, M>,
     session: &mut Session,
     line: &[u8],
     out: &mut [u8],
-) -> Answer
+) -> Result<usize, CallError>
     ensures answer { result ≡ answer_of out.old (step M.Make.spec (ledger_of M.Make session.old memory.old.pool) line.now).said }
     ensures buffer { out.new ≡ buffer_of out.old (step M.Make.spec (ledger_of M.Make session.old memory.old.pool) line.now).said }
     ensures ledger { ledger_of M.Make session.new memory.new.pool ≡ next_of out.old (ledger_of M.Make session.old memory.old.pool) (step M.Make.spec (ledger_of M.Make session.old memory.old.pool) line.now).next }
@@ -51,5 +33,9 @@ pub fn command<M: Make>(
     ensures records { memory.new.pool.elements.now ≡ changed M.Make memory.old.pool.chains.count (change_of out.old (step M.Make.spec (ledger_of M.Make session.old memory.old.pool) line.now).change) memory.old.pool.elements.now }
     ensures spared { Spared memory.old.pool memory.new.pool }
 {
-    answer(memory, session, line, out)
+    if out.len() < LEAST_BUFFER {
+        return Err(CallError::ShortBuffer);
+    }
+    let answer = hear(memory, session, line);
+    Ok(say::<M>(&answer, out))
 }

@@ -1,38 +1,37 @@
 // A line is judged in the order of refusals, and what it asks is done.
-ghost use Rattle.std.specs.Prelude.{◌≡◌, ◌≤◌, [], ◌∷◌, length, if◌then◌else◌, Some, codes, nat_eq};
+ghost use Rattle.std.specs.Prelude.{◌≡◌, ◌≤◌, [], ◌∷◌, length, if◌then◌else◌, ◌==◌, Some, Ok, Err, IfOk};
 ghost use Rattle.text.specs.Fields.{fields_left};
-ghost use Rattle.ledger.specs.Commands.{name_of};
-ghost use Rattle.ledger.specs.Replies.{reply, err};
+ghost use Rattle.ledger.specs.declared.refusal.Refusal.TheVariants.{Wrong};
 ghost use Rattle.ledger.specs.Lines.{known, step};
-ghost use Rattle.reply.specs.Wrote.{Wrote};
-ghost use Rattle.engine.specs.Gives.{Hears};
+ghost use Rattle.reply.specs.Told.{said_of, Showable};
+ghost use Rattle.reply.specs.declared.told.Told.TheVariants.{Done};
+ghost use Rattle.engine.specs.Gives.{Hears, said_by};
 ghost use Rattle.engine.specs.View.{ledger_of};
 
 use crate::running::carry_out;
 use crate::session::Session;
 use ledger::command::Command;
 use ledger::mode::Mode;
+use ledger::refusal::Refusal;
 use line::command::{counts, takes};
 use line::parts::{Parts, is_printable, parts_of};
 use make::Make;
 use memory::Memory;
-use reply::short::{say_err, say_ng, say_ok, say_orer};
+use reply::told::{Reply, Told};
 
 // A line has at most this many bytes.
 pub const LONGEST_LINE: usize = 256;
 
 // PRG, EPG: turns the mode, if no field was given.
-fn turn(mode: &mut Mode, to: Mode, command: Command, count: usize, out: &mut [u8]) -> usize
-    requires room { 600 ≤ length out.old }
-    ensures mode { mode.new ≡ (if nat_eq count 0 then to else mode.old) }
-    ensures wrote { Wrote out.old out.new result (if nat_eq count 0 then reply (name_of command) (codes "OK" ∷ []) else err) }
+fn turn<R>(mode: &mut Mode, to: Mode, count: usize) -> Result<Told<R>, Refusal>
+    ensures mode { mode.new ≡ (if count == 0 then to else mode.old) }
+    ensures value { result ≡ (if count == 0 then Ok Done else Err Wrong) }
 {
-    if count == 0 {
-        *mode = to;
-        say_ok(out, command)
-    } else {
-        say_err(out)
+    if count != 0 {
+        return Err(Refusal::Wrong);
     }
+    *mode = to;
+    Ok(Told::Done)
 }
 
 // Does what a known command asks, if the mode allows it and the count of its fields is right.
@@ -40,46 +39,46 @@ fn run<M: Make>(
     memory: &mut Memory<'_, M>,
     session: &mut Session,
     parts: Parts<'_>,
-    out: &mut [u8],
-) -> usize
-    requires room { 600 ≤ length out.old }
+) -> Result<Told<M::Record>, Refusal>
     requires count { parts.count ≡ length (fields_left parts.fields) }
-    ensures { Hears M.Make memory.old.pool memory.new.pool out.old out.new result (ledger_of M.Make session.new memory.new.pool) (known M.Make.spec (ledger_of M.Make session.old memory.old.pool) (Some parts.entry.command) (fields_left parts.entry.fields)) }
+    ensures hears { Hears M.Make memory.old.pool memory.new.pool (said_by M.Make parts.entry.command result) (ledger_of M.Make session.new memory.new.pool) (known M.Make.spec (ledger_of M.Make session.old memory.old.pool) (Some parts.entry.command) (fields_left parts.entry.fields)) }
+    ensures shows { IfOk result Showable }
 {
     let command = parts.command;
     let count = parts.count;
     match (&mut session.mode, command) {
-        (mode, Command::Prg) => turn(mode, Mode::On, command, count, out),
-        (mode, Command::Epg) => turn(mode, Mode::Off, command, count, out),
-        (Mode::Off, _) => say_ng(out),
+        (mode, Command::Prg) => turn(mode, Mode::On, count),
+        (mode, Command::Epg) => turn(mode, Mode::Off, count),
+        (Mode::Off, _) => Err(Refusal::ModeOff),
         (Mode::On, _) => {
             if counts::<M>(takes(command), count) {
-                carry_out(memory, command, count, parts.fields, out)
+                carry_out(memory, command, count, parts.fields)
             } else {
-                say_err(out)
+                Err(Refusal::Wrong)
             }
         }
     }
 }
 
-// Judges a line, does what it asks, and writes its reply.
+// Judges a line, and does what it asks.
 pub(crate) fn hear<M: Make>(
     memory: &mut Memory<'_, M>,
     session: &mut Session,
     line: &[u8],
-    out: &mut [u8],
-) -> usize
-    requires room { 600 ≤ length out.old }
-    ensures { Hears M.Make memory.old.pool memory.new.pool out.old out.new result (ledger_of M.Make session.new memory.new.pool) (step M.Make.spec (ledger_of M.Make session.old memory.old.pool) line.now) }
+) -> Result<Reply<M::Record>, Refusal>
+    ensures hears { Hears M.Make memory.old.pool memory.new.pool (said_of M.Make result) (ledger_of M.Make session.new memory.new.pool) (step M.Make.spec (ledger_of M.Make session.old memory.old.pool) line.now) }
+    ensures shows { IfOk result (λ x. Showable x.told) }
 {
     if line.len() > LONGEST_LINE {
-        return say_orer(out);
+        return Err(Refusal::TooLong);
     }
     if !is_printable(line) {
-        return say_err(out);
+        return Err(Refusal::Wrong);
     }
-    match parts_of(line) {
-        Some(parts) => run(memory, session, parts, out),
-        None => say_err(out),
-    }
+    let parts = parts_of(line).ok_or(Refusal::Wrong)?;
+    let told = run(memory, session, parts)?;
+    Ok(Reply {
+        command: parts.command,
+        told,
+    })
 }

@@ -5,7 +5,6 @@ mod calls;
 mod creating;
 mod deleting;
 mod hearing;
-mod reading;
 mod records;
 mod running;
 mod session;

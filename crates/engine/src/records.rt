@@ -1,21 +1,19 @@
-// The links of a record, and the commands that read a record.
+// A record as a read tells it: its links, its texts.
 ghost use Rattle.std.specs.Prelude.{◌≡◌, ◌<◌, ◌≤◌, true, length};
 ghost use Rattle.chain.specs.Rows.{head_or, last_or};
 ghost use Rattle.chain.specs.Blocks.{next_in, prev_in};
 ghost use Rattle.ledger.specs.Ledger.{number_of, living, holding, members};
 ghost use Rattle.ledger.specs.Replies.{links, sequence, system_over, shown_record};
-ghost use Rattle.ledger.specs.Steps.{says};
 ghost use Rattle.memory.specs.View.{store_of};
 ghost use Rattle.reply.specs.Shown.{Proper};
 ghost use Rattle.reply.specs.Linked.{pieces_of, AllProper};
-ghost use Rattle.engine.specs.Gives.{Gives};
+ghost use Rattle.reply.specs.Told.{told_pieces, Showable};
 
 use chain::{Branch, Chain, Index};
-use ledger::command::Command;
 use make::{Kind, Make};
 use memory::Memory;
 use reply::links::{Chained, Links, Neighbours};
-use reply::whole::say_record;
+use reply::told::Told;
 
 // The records before and behind `x`.
 fn neighbours_of<M: Make>(memory: &Memory<'_, M>, x: Index) -> Neighbours
@@ -54,10 +52,7 @@ fn system_over<M: Make>(memory: &Memory<'_, M>, owner: Option<Index>) -> Option<
     ensures value { number_of result ≡ system_over (store_of M.Make memory.now.pool) (number_of owner) }
     ensures proper { Proper result }
 {
-    match owner {
-        Some(owner) => memory.owner(owner),
-        None => None,
-    }
+    memory.owner(owner?)
 }
 
 // The links that a read of `x` shows.
@@ -79,18 +74,13 @@ fn links_of<M: Make>(memory: &Memory<'_, M>, x: Index, kind: Kind) -> Links
     }
 }
 
-// The record `x`, as a read shows it.
-pub(crate) fn tell_record<M: Make>(
-    memory: &mut Memory<'_, M>,
-    command: Command,
-    x: Index,
-    out: &mut [u8],
-) -> usize
-    requires room { 600 ≤ length out.old }
-    requires living { living (store_of M.Make memory.old.pool) x.number ≡ true }
-    ensures { Gives M.Make memory.old.pool memory.new.pool out.old out.new result (says (store_of M.Make memory.old.pool) command (shown_record M.Make.spec (store_of M.Make memory.old.pool) x.number (holding (store_of M.Make memory.old.pool) x.number))) }
+// The record `x`, as a read tells it.
+pub(crate) fn told_of<M: Make>(memory: &Memory<'_, M>, x: Index) -> Told<M::Record>
+    requires living { living (store_of M.Make memory.now.pool) x.number ≡ true }
+    ensures told { told_pieces M.Make result ≡ shown_record M.Make.spec (store_of M.Make memory.now.pool) x.number (holding (store_of M.Make memory.now.pool) x.number) }
+    ensures shows { Showable result }
 {
     let record = memory.read(x);
     let links = links_of(memory, x, M::kind(&record));
-    say_record::<M>(out, command, &record, links)
+    Told::Record(record, links)
 }
