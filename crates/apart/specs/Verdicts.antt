@@ -1,21 +1,14 @@
 -- What the code's answers to a test say. Assumes nothing.
-use Rattle.std.specs.Prelude.{ℕ, cond, List, [], ◌∷◌, length, Some, None, Ok, Err, Option, Result, nat_lt}
+use Rattle.std.specs.Prelude.{ℕ, if◌then◌else◌, List, [], ◌∷◌, length, Some, None, Ok, Err, Option, Result, nat_lt}
 use Rattle.text.specs.Buffer.{put}
 use Rattle.ledger.specs.Limits.{least_buffer}
-use Rattle.ledger.specs.Replies.{orer, err, ng}
+use Rattle.ledger.specs.Refusals.{refusal_of}
+use Rattle.ledger.specs.declared.refusal.Refusal.{Refusal}
 use Rattle.apart.specs.Testing.{Verdict, fails, passes, Passed}
-use Rattle.apart.specs.declared.judging.Refusal.{Refusal}
-use Rattle.apart.specs.declared.judging.Refusal.TheVariants.{TooLong, Wrong, ModeOff}
 use Rattle.apart.specs.declared.judging.Found.{Found}
 use Rattle.apart.specs.declared.lines.TestedLine.{TestedLine}
-use Rattle.apart.specs.declared.lines.Tested.{Tested}
-use Rattle.apart.specs.declared.lines.Tested.TheVariants.{ShortBuffer, Refused, Passed as PassedLine}
-
--- the reply of a refusal
-abbrev pub refusal_of : Refusal → List ℕ
-refusal_of TooLong = orer
-refusal_of Wrong = err
-refusal_of ModeOff = ng
+use Rattle.apart.specs.declared.lines.TestError.{TestError}
+use Rattle.apart.specs.declared.lines.TestError.TheVariants.{ShortBuffer, Refused}
 
 -- what a finding stands for
 abbrev pub verdict_of : Result Found Refusal → Verdict
@@ -33,10 +26,10 @@ pub record Told : Type 0 where
   pub passed : Option Passed
 
 -- a short buffer is number 1, a refusal's value is its count of bytes, and a test that passes gives the tested line
-abbrev pub told_of : Tested → Told
-told_of ShortBuffer = record { number = Some 1; values = []; passed = None }
-told_of (Refused n) = record { number = None; values = n ∷ []; passed = None }
-told_of (PassedLine t) = record { number = None; values = []; passed = Some (passed_of t) }
+abbrev pub told_of : Result TestedLine TestError → Told
+told_of (Err ShortBuffer) = record { number = Some 1; values = []; passed = None }
+told_of (Err (Refused n)) = record { number = None; values = n ∷ []; passed = None }
+told_of (Ok t) = record { number = None; values = []; passed = Some (passed_of t) }
 
 -- what a test of a line with a long enough buffer answers
 abbrev pub found : List ℕ → Verdict → Told
@@ -45,7 +38,7 @@ found line (passes i k) = record { number = None; values = []; passed = Some (re
 
 -- the answer to a test of a line with a buffer of n bytes: number 1 where that is too short
 abbrev pub tested_of : ℕ → List ℕ → Verdict → Told
-tested_of n line v = cond (nat_lt n least_buffer) (record { number = Some 1; values = []; passed = None }) (found line v)
+tested_of n line v = if nat_lt n least_buffer then record { number = Some 1; values = []; passed = None } else found line v
 
 -- a refusal is put into the buffer o, and a line that passes leaves it
 abbrev pub shown_in : List ℕ → Verdict → List ℕ
@@ -54,4 +47,4 @@ shown_in o (passes i k) = o
 
 -- that buffer then: the refusal and its rest, or as it was
 abbrev pub buffer_after : List ℕ → Verdict → List ℕ
-buffer_after o v = cond (nat_lt (length o) least_buffer) o (shown_in o v)
+buffer_after o v = if nat_lt (length o) least_buffer then o else shown_in o v

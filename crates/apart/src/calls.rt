@@ -10,13 +10,14 @@ ghost use Rattle.engine.specs.View.{ledger_of};
 ghost use Rattle.apart.specs.Testing.{test as judged, write as wrote};
 ghost use Rattle.apart.specs.Verdicts.{told_of, tested_of, buffer_after, passed_of};
 
-use crate::judging::{judge, say};
-use crate::lines::{Tested, TestedLine, UntestedLine};
+use crate::judging::judge;
+use crate::lines::{TestError, TestedLine, UntestedLine};
 use crate::writing::spend;
 use engine::{LEAST_BUFFER, Session};
-use ledger::answer::Answer;
+use ledger::answer::CallError;
 use make::Make;
 use memory::Memory;
+use reply::told::say;
 
 // Tests a set line, and changes nothing but the buffer, which gets the refusal. A buffer that is too short gets number 1, and a line that passes leaves the buffer.
 pub fn test<'a, M: Make>(
@@ -24,41 +25,22 @@ pub fn test<'a, M: Make>(
     session: &Session,
     untested: UntestedLine<'a>,
     out: &mut [u8],
-) -> Tested<'a>
+) -> Result<TestedLine<'a>, TestError>
     ensures answer { told_of result ≡ tested_of (length out.old) untested.entry.line.now (judged M.Make.spec (ledger_of M.Make session.now memory.now.pool) untested.entry.line.now) }
     ensures buffer { out.new ≡ buffer_after out.old (judged M.Make.spec (ledger_of M.Make session.now memory.now.pool) untested.entry.line.now) }
 {
     if out.len() < LEAST_BUFFER {
-        return Tested::ShortBuffer;
+        return Err(TestError::ShortBuffer);
     }
     let line = untested.line;
     match judge(memory, session, line) {
-        Ok(found) => Tested::Passed(TestedLine {
+        Ok(found) => Ok(TestedLine {
             line,
             index: found.index,
             kind: found.kind,
         }),
-        Err(refusal) => Tested::Refused(say(refusal, out)),
+        Err(refusal) => Err(TestError::Refused(say::<M>(&Err(refusal), out))),
     }
-}
-
-// What a write is answered: number 1 where the buffer is too short, and then nothing is done.
-fn answer<M: Make>(
-    memory: &mut Memory<'_, M>,
-    session: &mut Session,
-    tested: TestedLine<'_>,
-    out: &mut [u8],
-) -> Answer
-    ensures answer { result ≡ answer_of out.old (wrote M.Make.spec (ledger_of M.Make session.old memory.old.pool) (passed_of tested.entry)).said }
-    ensures buffer { out.new ≡ buffer_of out.old (wrote M.Make.spec (ledger_of M.Make session.old memory.old.pool) (passed_of tested.entry)).said }
-    ensures ledger { ledger_of M.Make session.new memory.new.pool ≡ next_of out.old (ledger_of M.Make session.old memory.old.pool) (wrote M.Make.spec (ledger_of M.Make session.old memory.old.pool) (passed_of tested.entry)).next }
-    ensures records { memory.new.pool.elements.now ≡ changed M.Make memory.old.pool.chains.count (change_of out.old (wrote M.Make.spec (ledger_of M.Make session.old memory.old.pool) (passed_of tested.entry)).change) memory.old.pool.elements.now }
-    ensures spared { Spared memory.old.pool memory.new.pool }
-{
-    if out.len() < LEAST_BUFFER {
-        return Answer::ShortBuffer;
-    }
-    Answer::Reply(spend(memory, session.mode, tested, out))
 }
 
 // Writes the fields of a tested line, which is spent by this whatever the answer. A buffer that is too short gets number 1, and nothing is done.
@@ -67,7 +49,7 @@ pub fn write<M: Make>(
     session: &mut Session,
     tested: TestedLine<'_>,
     out: &mut [u8],
-) -> Answer
+) -> Result<usize, CallError>
     ensures answer { result ≡ answer_of out.old (wrote M.Make.spec (ledger_of M.Make session.old memory.old.pool) (passed_of tested.entry)).said }
     ensures buffer { out.new ≡ buffer_of out.old (wrote M.Make.spec (ledger_of M.Make session.old memory.old.pool) (passed_of tested.entry)).said }
     ensures ledger { ledger_of M.Make session.new memory.new.pool ≡ next_of out.old (ledger_of M.Make session.old memory.old.pool) (wrote M.Make.spec (ledger_of M.Make session.old memory.old.pool) (passed_of tested.entry)).next }
@@ -75,5 +57,9 @@ pub fn write<M: Make>(
     ensures records { memory.new.pool.elements.now ≡ changed M.Make memory.old.pool.chains.count (change_of out.old (wrote M.Make.spec (ledger_of M.Make session.old memory.old.pool) (passed_of tested.entry)).change) memory.old.pool.elements.now }
     ensures spared { Spared memory.old.pool memory.new.pool }
 {
-    answer(memory, session, tested, out)
+    if out.len() < LEAST_BUFFER {
+        return Err(CallError::ShortBuffer);
+    }
+    let answer = spend(memory, session, tested);
+    Ok(say::<M>(&answer, out))
 }

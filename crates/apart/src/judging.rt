@@ -4,47 +4,26 @@ ghost use Rattle.text.specs.Fields.{fields_left};
 ghost use Rattle.ledger.specs.Records.{target};
 ghost use Rattle.memory.specs.View.{store_of};
 ghost use Rattle.engine.specs.View.{ledger_of};
-ghost use Rattle.reply.specs.Wrote.{Wrote};
 ghost use Rattle.apart.specs.Testing.{named, counted, known, test};
-ghost use Rattle.apart.specs.Verdicts.{refusal_of, verdict_of};
+ghost use Rattle.apart.specs.Verdicts.{verdict_of};
 
 use chain::Index;
 use engine::{LONGEST_LINE, Session, find_target};
 use ledger::command::{Command, Takes};
 use ledger::mode::Mode;
+use ledger::refusal::Refusal;
 use line::command::takes;
 use line::parts::{Parts, is_printable, next_bytes, parts_of};
 use line::texts::fields_legal;
 use make::{Kind, Make};
 use memory::Memory;
-use reply::short::{say_err, say_ng, say_orer};
 use text::field::Fields;
-
-// Why a line is refused.
-#[derive(Clone, Copy)]
-pub(crate) enum Refusal {
-    TooLong,
-    Wrong,
-    ModeOff,
-}
 
 // The block that a set line names, and the kind of the record there.
 #[derive(Clone, Copy)]
 pub(crate) struct Found {
     pub(crate) index: Index,
     pub(crate) kind: Kind,
-}
-
-// Writes a refusal.
-pub(crate) fn say(refusal: Refusal, out: &mut [u8]) -> usize
-    requires room { 600 ≤ length out.old }
-    ensures { Wrote out.old out.new result (refusal_of refusal) }
-{
-    match refusal {
-        Refusal::TooLong => say_orer(out),
-        Refusal::Wrong => say_err(out),
-        Refusal::ModeOff => say_ng(out),
-    }
 }
 
 // Finds the record that a set line names, and tests every filled field against its kind.
@@ -58,18 +37,13 @@ fn judge_fields<M: Make>(
     ensures value { verdict_of result ≡ named M.Make.spec (store_of M.Make memory.now.pool) (target (store_of M.Make memory.now.pool) command (slice_index_or (fields_left fields.entry) 0 [])) (drop 1 (fields_left fields.entry)) }
 {
     let mut rest = fields;
-    let text = next_bytes(&mut rest);
-    match find_target(memory, command, text) {
-        Some(index) => {
-            let record = memory.read(index);
-            let kind = M::kind(&record);
-            if fields_legal::<M>(kind, count, rest) {
-                Ok(Found { index, kind })
-            } else {
-                Err(Refusal::Wrong)
-            }
-        }
-        None => Err(Refusal::Wrong),
+    let index = find_target(memory, command, next_bytes(&mut rest))?;
+    let record = memory.read(index);
+    let kind = M::kind(&record);
+    if fields_legal::<M>(kind, count, rest) {
+        Ok(Found { index, kind })
+    } else {
+        Err(Refusal::Wrong)
     }
 }
 
@@ -124,8 +98,6 @@ pub(crate) fn judge<M: Make>(
     if !is_printable(line) {
         return Err(Refusal::Wrong);
     }
-    match parts_of(line) {
-        Some(parts) => judge_parts(memory, session, parts),
-        None => Err(Refusal::Wrong),
-    }
+    let parts = parts_of(line).ok_or(Refusal::Wrong)?;
+    judge_parts(memory, session, parts)
 }

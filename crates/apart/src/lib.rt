@@ -9,4 +9,4 @@ mod writing;
 
 pub use calls::{test, write};
 pub use laws::written_at_once;
-pub use lines::{Tested, TestedLine, UntestedLine};
+pub use lines::{TestError, TestedLine, UntestedLine};

@@ -1,4 +1,4 @@
-// The two states of a line, and what a test answers.
+// The two states of a line, and why a line does not pass its test.
 use chain::Index;
 use make::Kind;
 
@@ -16,10 +16,11 @@ pub struct TestedLine<'a> {
     pub(crate) kind: Kind,
 }
 
-// What a test answers: number 1 for a buffer that is too short, how many bytes of the buffer are the refusal, or the tested line.
-#[derive(Drop)]
-pub enum Tested<'a> {
+// Why a test gives no tested line.
+#[derive(Clone, Copy, PartialEq, Eq, Debug)]
+pub enum TestError {
+    // Number 1: the buffer is too short for a reply.
     ShortBuffer,
+    // The line is refused: how many bytes of the buffer are the refusal.
     Refused(usize),
-    Passed(TestedLine<'a>),
 }

@@ -1,35 +1,22 @@
 // The fields of a tested line are tested again, and written.
-ghost use Rattle.std.specs.Prelude.{◌≡◌, ◌≤◌, true, length};
+ghost use Rattle.std.specs.Prelude.{◌≡◌, ◌≤◌, true, length, Ok, IfOk};
 ghost use Rattle.text.specs.Fields.{fields_left};
-ghost use Rattle.ledger.specs.Records.{kind_number};
 ghost use Rattle.memory.specs.View.{store_of};
-ghost use Rattle.engine.specs.Gives.{Gives};
-ghost use Rattle.apart.specs.Testing.{holds, put_into, puts, spent};
+ghost use Rattle.reply.specs.Told.{said_of, Showable};
+ghost use Rattle.engine.specs.Gives.{Gives, Hears};
+ghost use Rattle.engine.specs.View.{ledger_of};
+ghost use Rattle.apart.specs.Testing.{holds, put_into, write};
 ghost use Rattle.apart.specs.Verdicts.{passed_of};
 
 use crate::lines::TestedLine;
 use chain::Index;
-use engine::{LONGEST_LINE, set};
+use engine::{LONGEST_LINE, Session, set};
 use ledger::mode::Mode;
+use ledger::refusal::Refusal;
 use line::parts::{Parts, next_bytes, parts_of};
 use make::{Kind, Make};
 use memory::Memory;
-use reply::short::{say_err, say_ng};
-
-// The number of a kind.
-fn kind_number(kind: Kind) -> u8
-    ensures value { result ≡ kind_number kind }
-{
-    match kind {
-        Kind::System => 1,
-        Kind::Site => 2,
-        Kind::ChannelGroup => 3,
-        Kind::TalkgroupGroup => 4,
-        Kind::Channel => 5,
-        Kind::Talkgroup => 6,
-        Kind::TrunkFrequency => 7,
-    }
-}
+use reply::told::{Reply, Told};
 
 // Whether block `x` holds a record of a kind.
 fn holds<M: Make>(memory: &Memory<'_, M>, x: Index, kind: Kind) -> bool
@@ -39,7 +26,7 @@ fn holds<M: Make>(memory: &Memory<'_, M>, x: Index, kind: Kind) -> bool
         return false;
     }
     let record = memory.read(x);
-    kind_number(kind) == kind_number(M::kind(&record))
+    kind == M::kind(&record)
 }
 
 // Writes the fields of a line into block `x`, if it holds a record of that kind still and the make takes the line.
@@ -48,50 +35,38 @@ fn put_into<M: Make>(
     parts: Parts<'_>,
     x: Index,
     kind: Kind,
-    out: &mut [u8],
-) -> usize
-    requires room { 600 ≤ length out.old }
+) -> Result<Told<M::Record>, Refusal>
     requires count { parts.count ≡ length (fields_left parts.fields) }
-    ensures { Gives M.Make memory.old.pool memory.new.pool out.old out.new result (put_into M.Make.spec (store_of M.Make memory.old.pool) parts.entry.command x.number kind (fields_left parts.entry.fields)) }
+    ensures { Gives M.Make memory.old.pool memory.new.pool parts.entry.command result (λ L. put_into M.Make.spec L parts.entry.command x.number kind (fields_left parts.entry.fields)) }
 {
     let count = parts.count;
-    if !holds(memory, x, kind) {
-        return say_err(out);
-    }
-    if count != M::field_count(kind) + 1 {
-        return say_err(out);
+    if !holds(memory, x, kind) || count != M::field_count(kind) + 1 {
+        return Err(Refusal::Wrong);
     }
     let mut rest = parts.fields;
     next_bytes(&mut rest);
-    set(memory, parts.command, x, count, rest, out)
+    set(memory, x, count, rest)
 }
 
-// Writes the fields of a tested line.
-fn put_line<M: Make>(memory: &mut Memory<'_, M>, tested: TestedLine<'_>, out: &mut [u8]) -> usize
-    requires room { 600 ≤ length out.old }
-    ensures { Gives M.Make memory.old.pool memory.new.pool out.old out.new result (puts M.Make.spec (store_of M.Make memory.old.pool) (passed_of tested.entry)) }
-{
-    if tested.line.len() > LONGEST_LINE {
-        return say_err(out);
-    }
-    match parts_of(tested.line) {
-        Some(parts) => put_into(memory, parts, tested.index, tested.kind, out),
-        None => say_err(out),
-    }
-}
-
-// Spends a tested line.
+// Spends a tested line: writes its fields, if the mode is on.
 pub(crate) fn spend<M: Make>(
     memory: &mut Memory<'_, M>,
-    mode: Mode,
+    session: &Session,
     tested: TestedLine<'_>,
-    out: &mut [u8],
-) -> usize
-    requires room { 600 ≤ length out.old }
-    ensures { Gives M.Make memory.old.pool memory.new.pool out.old out.new result (spent M.Make.spec mode (store_of M.Make memory.old.pool) (passed_of tested.entry)) }
+) -> Result<Reply<M::Record>, Refusal>
+    ensures hears { Hears M.Make memory.old.pool memory.new.pool (said_of M.Make result) (ledger_of M.Make session.now memory.new.pool) (write M.Make.spec (ledger_of M.Make session.now memory.old.pool) (passed_of tested.entry)) }
+    ensures shows { IfOk result (λ x. Showable x.told) }
 {
-    match mode {
-        Mode::Off => say_ng(out),
-        Mode::On => put_line(memory, tested, out),
+    if session.mode == Mode::Off {
+        return Err(Refusal::ModeOff);
     }
+    if tested.line.len() > LONGEST_LINE {
+        return Err(Refusal::Wrong);
+    }
+    let parts = parts_of(tested.line).ok_or(Refusal::Wrong)?;
+    let told = put_into(memory, parts, tested.index, tested.kind)?;
+    Ok(Reply {
+        command: parts.command,
+        told,
+    })
 }

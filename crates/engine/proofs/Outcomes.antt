@@ -45,7 +45,7 @@ gives_done make p p' c r F k t fs h is e d =
     gives_as make p p' c r (λ L. at L (target L c t) (F L c)) (λ L. done make.spec L c fs) h (one_done make.spec (store_of make p) (F (store_of make p)) c k t fs is e (d (store_of make p)))
 
 -- a line with an index and more fields sets the record
-set_done : (S : MakeSpec) (L : Store) (c : Command) (i : ℕ) (t : List ℕ) (fs rest : List (List ℕ)) → t ≡ slice_index_or fs 0 [] → rest ≡ drop 1 fs → target L c t ≡ Some i → (length fs ≡ 1 → ⊥) → sets S L c i (holding L i) rest ≡ read_or_set S L c fs
+pub set_done : (S : MakeSpec) (L : Store) (c : Command) (i : ℕ) (t : List ℕ) (fs rest : List (List ℕ)) → t ≡ slice_index_or fs 0 [] → rest ≡ drop 1 fs → target L c t ≡ Some i → (length fs ≡ 1 → ⊥) → sets S L c i (holding L i) rest ≡ read_or_set S L c fs
 set_done S L c i t fs rest e d here more =
     ap (sets S L c i (holding L i)) d
     ∙ sym (ap (λ (z : Option ℕ). at L z (λ j. if length fs == 1 then says L c (shown_record S L j (holding L j)) else sets S L c j (holding L j) (drop 1 fs))) (ap (target L c) (sym e) ∙ here)

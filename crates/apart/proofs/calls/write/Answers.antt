@@ -2,7 +2,9 @@
 use Rattle.chain.proofs.Found.{link_is}
 use Rattle.apart.proofs.calls.write.Goals as goal
 
-pub returns : goal.returns
-returns g c =
-    let n = c.answer.new.memory in
-    record { answer = c.answer.ensures.answer; buffer = c.answer.ensures.buffer; ledger = c.answer.ensures.ledger; links = λ i low high. link_is n.pool.chains n.sound i low high; records = c.answer.ensures.records; spared = c.answer.ensures.spared }
+pub returns-then-out-lt-LEAST_BUFFER-clause-links :
+    goal.returns-then-out-lt-LEAST_BUFFER-clause-links
+returns-then-out-lt-LEAST_BUFFER-clause-links g c = let n = c.args.memory.now in λ i low high. link_is n.pool.chains n.sound i low high
+
+pub returns-clause-links : goal.returns-clause-links
+returns-clause-links g c = let n = c.spend-answer.new.memory in λ i low high. link_is n.pool.chains n.sound i low high
