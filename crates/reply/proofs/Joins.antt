@@ -4,7 +4,7 @@ use Rattle.std.proofs.lemmas.List.{take-append-drop, take_more, take_all, get_or
 use Rattle.text.specs.Buffer.{put}
 use Rattle.text.specs.Writing.{Puts}
 use Rattle.text.specs.declared.writer.Writer.{Writer}
-use Rattle.text.proofs.Puts.{put_put}
+use Rattle.text.proofs.Puts.{put_put, length-put}
 use Rattle.ledger.specs.Replies.{listed, reply}
 use Rattle.reply.specs.Lists.{Lists}
 
@@ -66,3 +66,14 @@ pub replied : (w v u x : Writer) (name : List ℕ) (ts : List (List ℕ)) → Pu
 replied w v u x name ts p q r fits =
     subst (Puts w x) (append_assoc name (listed ts) (13 ∷ []))
     (puts_both w u x (name ++ listed ts) (13 ∷ []) (puts_both w v u name (listed ts) p q (omega (arith, q.end, fits))) r fits)
+
+-- a buffer keeps its length
+pub puts_length : (w v : Writer) (a : List ℕ) → Puts w v a → v.at ≤ length w.out.now → length v.out.now ≡ length w.out.now
+puts_length w v a p fits = ap length p.buffer ∙ length-put w.out.now a w.at (omega (arith, p.end, fits))
+
+-- the same where the letters and the first texts were written at once
+pub replied_on : (w v u x : Writer) (name : List ℕ) (ts us : List (List ℕ)) → Puts w v (name ++ listed ts) → Lists v u us → Puts u x (13 ∷ []) → u.at ≤ length w.out.now → Puts w x (reply name (ts ++ us))
+replied_on w v u x name ts us p q r fits =
+    let all : (name ++ listed ts) ++ listed us ≡ name ++ listed (ts ++ us) = append_assoc name (listed ts) (listed us) ∙ ap (λ z. name ++ z) (sym (listed_append ts us)) in
+    let both = subst (Puts w u) all (puts_both w v u (name ++ listed ts) (listed us) p q (omega (arith, q.end, fits))) in
+    subst (Puts w x) (append_assoc name (listed (ts ++ us)) (13 ∷ [])) (puts_both w u x (name ++ listed (ts ++ us)) (13 ∷ []) both r fits)

@@ -5,7 +5,6 @@ ghost use Rattle.engine.specs.View.{ledger_of};
 ghost use Rattle.report.specs.Report.{lines_from, lines_of, replies, behind};
 
 use engine::{Session, command};
-use ledger::answer::Answer;
 use make::Make;
 use memory::Memory;
 use std::alloc::AllocError;
@@ -41,10 +40,7 @@ fn hear_line<M: Make>(
     ensures said { take result buffer.new ≡ (step M.Make.spec (ledger_of M.Make session.old memory.old.pool) line.now).said }
     ensures ledger { (ledger_of M.Make session.new memory.new.pool) ≡ (step M.Make.spec (ledger_of M.Make session.old memory.old.pool) line.now).next }
 {
-    match command(memory, session, line, buffer) {
-        Answer::Reply(n) => n,
-        Answer::ShortBuffer => 0,
-    }
+    command(memory, session, line, buffer).unwrap()
 }
 
 // Gives a line to the engine, and adds the reply to `out`.

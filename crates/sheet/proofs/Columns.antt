@@ -6,7 +6,8 @@ use Rattle.make.specs.declared.kind.Kind.{Kind}
 use Rattle.make.specs.Data.{MakeSpec, FieldSpec, reserve, name_at}
 use Rattle.make.specs.Shapes.{every, field_name_byte, long}
 use Rattle.make.specs.Rules.{Keeps}
-use Rattle.reply.specs.Wrote.{Listed}
+use Rattle.reply.specs.Lists.{Lists}
+use Rattle.text.specs.declared.writer.Writer.{Writer}
 use Rattle.reply.proofs.Joins.{both}
 use Rattle.sheet.specs.Sheet.{names_in}
 
@@ -25,8 +26,8 @@ short t h = leb-true (length t) 12 (and_parts (leb 1 (length t)) _ (and_parts (l
 pub name_short : (S : MakeSpec) (k : Kind) (f : ℕ) → Keeps S → length (name_at S k f) ≤ 12
 name_short S k f K = short (name_at S k f) (K.field k f).named
 
-pub name_on : (o o₁ o₂ : List ℕ) (Fs : List FieldSpec) (f at next r : ℕ) (t : List ℕ) → f < length Fs → t ≡ (get_or Fs f reserve).name → Listed o o₁ at next (take f (names_in Fs)) → Listed o₁ o₂ next r (t ∷ []) → next ≤ length o → Listed o o₂ at r (take (f + 1) (names_in Fs))
-name_on o o₁ o₂ Fs f at next r t h e a b fits =
-    let P : List (List ℕ) → Type 0 = λ us. Listed o o₂ at r us in
+-- the names so far, and one more
+pub name_on : (w v u : Writer) (Fs : List FieldSpec) (f : ℕ) (t : List ℕ) → f < length Fs → t ≡ (get_or Fs f reserve).name → Lists w v (take f (names_in Fs)) → Lists v u (t ∷ []) → v.at ≤ length w.out.now → Lists w u (take (f + 1) (names_in Fs))
+name_on w v u Fs f t h e p q fits =
     let same : take f (names_in Fs) ++ (t ∷ []) ≡ take (f + 1) (names_in Fs) = ap (λ z. take f (names_in Fs) ++ (z ∷ [])) (e ∙ sym (name_there Fs f h)) ∙ sym (take_more (names_in Fs) f [] (omega (arith, h, names_length Fs))) in
-    subst P same (both o o₁ o₂ (take f (names_in Fs)) (t ∷ []) at next r a b fits)
+    subst (Lists w u) same (both w v u (take f (names_in Fs)) (t ∷ []) p q fits)

@@ -1,51 +1,60 @@
 // The line of names of a kind.
 ghost use Rattle.std.specs.Prelude.{◌≡◌, ◌+◌, ◌*◌, ◌≤◌, [], ◌∷◌, length};
+ghost use Rattle.text.specs.Writing.{Puts};
 ghost use Rattle.make.specs.Data.{fields_of};
-ghost use Rattle.reply.specs.Wrote.{Wrote, Listed};
+ghost use Rattle.reply.specs.Lists.{Lists};
+ghost use Rattle.reply.specs.Wrote.{Wrote};
 ghost use Rattle.sheet.specs.Sheet.{names, names_in, type_column};
 
 use make::{Kind, Make};
-use reply::pieces::piece;
-use text::buffer::{put_byte, put_bytes};
+use reply::pieces::put_piece;
+use text::writer::Writer;
 
 // The column of a system's type.
-fn put_type_name(out: &mut [u8], at: usize, kind: Kind) -> usize
-    requires room { at + 5 ≤ length out.old }
-    ensures bound { result ≤ at + 5 }
-    ensures texts { Listed out.old out.new at result (type_column kind) }
+fn put_type_name(w: &mut Writer<'_>, kind: Kind)
+    requires room { w.old.at + 5 ≤ length w.old.out.now }
+    ensures bound { w.new.at ≤ w.old.at + 5 }
+    ensures texts { Lists w.old w.new (type_column kind) }
 {
     match kind {
-        Kind::System => piece(out, at, b"TYPE"),
+        Kind::System => put_piece(w, b"TYPE"),
         Kind::Site
         | Kind::ChannelGroup
         | Kind::TalkgroupGroup
         | Kind::Channel
         | Kind::Talkgroup
-        | Kind::TrunkFrequency => at,
+        | Kind::TrunkFrequency => {}
     }
 }
 
 // The names of the fields of a kind.
-fn put_field_names<M: Make>(out: &mut [u8], at: usize, kind: Kind) -> usize
-    requires room { at + 260 ≤ length out.old }
-    ensures bound { result ≤ at + 260 }
-    ensures texts { Listed out.old out.new at result (names_in (fields_of M.Make.spec kind)) }
+fn put_field_names<M: Make>(w: &mut Writer<'_>, kind: Kind)
+    requires room { w.old.at + 260 ≤ length w.old.out.now }
+    ensures bound { w.new.at ≤ w.old.at + 260 }
+    ensures texts { Lists w.old w.new (names_in (fields_of M.Make.spec kind)) }
 {
-    let count = M::field_count(kind);
-    let mut next = at;
-    for field in 0..count {
-        next = piece(out, next, M::field_name(kind, field));
+    for field in 0..M::field_count(kind) {
+        put_piece(w, M::field_name(kind, field));
     }
-    next
 }
 
 // The names of the columns of a kind: INDEX, OWNER, REV, FWD, for systems TYPE, and the fields.
+fn put_columns<M: Make>(w: &mut Writer<'_>, kind: Kind)
+    requires room { w.old.at + 600 ≤ length w.old.out.now }
+    ensures { Puts w.old w.new (names M.Make.spec kind) }
+{
+    w.put_bytes(b"INDEX,OWNER,REV,FWD");
+    put_type_name(w, kind);
+    put_field_names::<M>(w, kind);
+    w.put_byte(b'\r');
+}
+
+// Writes the line of names of a kind at the front of a buffer, and answers how many bytes it is.
 pub fn put_names<M: Make>(kind: Kind, out: &mut [u8]) -> usize
     requires room { 600 ≤ length out.old }
     ensures { Wrote out.old out.new result (names M.Make.spec kind) }
 {
-    let started = put_bytes(out, 0, b"INDEX,OWNER,REV,FWD");
-    let typed = put_type_name(out, started, kind);
-    let named = put_field_names::<M>(out, typed, kind);
-    put_byte(out, named, b'\r')
+    let mut w = Writer { out, at: 0 };
+    put_columns::<M>(&mut w, kind);
+    w.at
 }
