@@ -1,9 +1,9 @@
 -- A reply at the front of a buffer. Assumes nothing.
-use Rattle.std.proofs.Common.{◌≡◌, ℕ, ◌+◌, ◌-◌, ◌≤◌, min, cond, List, [], ◌∷◌, ◌++◌, length, take, drop, sym, ap, ◌∙◌, ⊎_elim, append_assoc, arith, length-append, length-drop}
+use Rattle.std.proofs.Common.{◌≡◌, ℕ, ◌+◌, ◌-◌, ◌≤◌, min, if◌then◌else◌, Ok, Err, List, [], ◌∷◌, ◌++◌, length, take, drop, sym, ap, ◌∙◌, ⊎_elim, append_assoc, arith, length-append, length-drop}
 use Rattle.std.proofs.lemmas.List.{take_at, take_all, length-take-le}
 use Rattle.std.proofs.lemmas.Bool.{le-ltb, cases_lt}
 use Rattle.text.specs.Buffer.{put}
-use Rattle.ledger.specs.declared.answer.Answer.TheVariants.{ShortBuffer, Reply}
+use Rattle.ledger.specs.declared.answer.CallError.TheVariants.{ShortBuffer}
 use Rattle.ledger.specs.Ledger.{Ledger}
 use Rattle.ledger.specs.Answers.{answer_of, buffer_of, next_of}
 use Rattle.ledger.specs.Lines.{step}
@@ -16,20 +16,18 @@ pub record Said (o o' t : List ℕ) (n : ℕ) : Type 0 where
   pub within : n ≤ length o
   pub said : take n o' ≡ t
 
-pub reply_said : (o o' t : List ℕ) (n : ℕ) → 600 ≤ length o → length o' ≡ length o → Reply n ≡ answer_of o t → o' ≡ buffer_of o t → Said o o' t n
-reply_said o o' t n h long a b =
-    let e = le-ltb (length o) 600 h in
-    let a' : Reply n ≡ Reply (length t) = a ∙ ap (λ z. cond z ShortBuffer (Reply (length t))) e in
-    let same : n ≡ length t = cc in
-    let b' : o' ≡ t ++ drop (0 + length t) o = b ∙ ap (λ z. cond z o (put o 0 t)) e in
+-- it is answered by the count of that reply's bytes
+pub answered : (o t : List ℕ) → 600 ≤ length o → answer_of o t ≡ Ok (length t)
+answered o t h = ap (λ z. if z then Err ShortBuffer else Ok (length t)) (le-ltb (length o) 600 h)
+
+pub reply_said : (o o' t : List ℕ) (n : ℕ) → 600 ≤ length o → length o' ≡ length o → n ≡ length t → o' ≡ buffer_of o t → Said o o' t n
+reply_said o o' t n h long same b =
+    let b' : o' ≡ t ++ drop (0 + length t) o = b ∙ ap (λ z. if z then o else put o 0 t) (le-ltb (length o) 600 h) in
     let l = ap length b' ∙ length-append t (drop (0 + length t) o) in
     record { within = omega (arith, same, l, long, length-drop (0 + length t) o); said = ap (take n) b' ∙ take_at t (drop (0 + length t) o) n (sym same) }
 
-pub not_short : (o t : List ℕ) → 600 ≤ length o → ShortBuffer ≡ answer_of o t → ⊥
-not_short o t h a = let a' : ShortBuffer ≡ Reply (length t) = a ∙ ap (λ z. cond z ShortBuffer (Reply (length t))) (le-ltb (length o) 600 h) in let z : ◌≡◌ {A = ℕ} 0 1 = cc in omega arith
-
 pub next_of_lem : (o : List ℕ) (L N : Ledger) → 600 ≤ length o → next_of o L N ≡ N
-next_of_lem o L N h = ap (λ b. cond b L N) (le-ltb (length o) 600 h)
+next_of_lem o L N h = ap (λ b. if b then L else N) (le-ltb (length o) 600 h)
 
 -- one line more is answered
 pub line_said : (S : MakeSpec) (L L' : Ledger) (o o' t rest rest' : List ℕ) → lines_from [] rest ≡ take 257 t ∷ lines_from [] rest' → o' ≡ o ++ (step S L (take 257 t)).said → L' ≡ (step S L (take 257 t)).next → (o' ++ replies S L' (lines_from [] rest') ≡ o ++ replies S L (lines_from [] rest)) × (behind S L' (lines_from [] rest') ≡ behind S L (lines_from [] rest))

@@ -20,12 +20,7 @@ const REPLY_BUFFER: usize = 600;
 fn line_end(text: &[u8]) -> Option<usize>
     ensures { MatchOption result (lines_from [] text.now ≡ []) (λ end. (end < length text.now) × (lines_from [] text.now ≡ take 257 (take end text.now) ∷ lines_from [] (drop (end + 1) text.now))) }
 {
-    for (i, b) in text.iter().enumerate() {
-        if *b == b'\r' {
-            return Some(i);
-        }
-    }
-    None
+    text.iter().position(|b| *b == b'\r')
 }
 
 // Gives a line to the engine, and answers how many bytes of the buffer are the reply.
