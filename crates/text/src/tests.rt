@@ -1,6 +1,6 @@
 // Examples of the text layer.
 use crate::buffer::put_bytes;
-use crate::field::{Field, Fields};
+use crate::field::{Fields, Part};
 use crate::frequency::Frequency;
 use crate::number::{put_number, read_number};
 use crate::signed::{put_signed, read_signed};
@@ -56,23 +56,23 @@ fn frequencies(rt: HostRuntime) -> Result<(), Fail> {
 #[test]
 fn fields(rt: HostRuntime) -> Result<(), Fail> {
     let mut fields = Fields::of(b"CIN,,bc,");
-    assert!(rt; fields.next_field().is_some());
-    match fields.next_field() {
-        Some(Field::LeftOut) => {}
+    assert!(rt; fields.next().is_some());
+    match fields.next() {
+        Some(None) => {}
         _ => return Err(Fail::new("filled")),
     }
-    match fields.next_field() {
-        Some(Field::Part { bytes, at }) => {
+    match fields.next() {
+        Some(Some(Part { bytes, at })) => {
             assert_eq!(rt; at, 5);
             assert!(rt; bytes == b"bc".as_slice());
         }
         _ => return Err(Fail::new("left out")),
     }
-    match fields.next_field() {
-        Some(Field::LeftOut) => {}
+    match fields.next() {
+        Some(None) => {}
         _ => return Err(Fail::new("no field behind the last comma")),
     }
-    assert!(rt; fields.next_field().is_none());
+    assert!(rt; fields.next().is_none());
     let mut out = [7u8; 4];
     assert_eq!(rt; put_bytes(&mut out, 1, b"OK"), 3);
     assert!(rt; out == [7, b'O', b'K', 7]);
