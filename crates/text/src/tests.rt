@@ -39,7 +39,7 @@ fn frequencies(rt: HostRuntime) -> Result<(), Fail> {
     assert!(rt; Frequency::from_text(b"13000001").is_none());
     assert!(rt; Frequency::from_text(b"000250000").is_none());
     assert!(rt; Frequency::from_text(b"00000000").is_some());
-    assert!(rt; Frequency::from_steps(1).is_none());
+    assert!(rt; Frequency::try_from(1).is_err());
     assert_eq!(rt; Frequency::from_row(1).steps(), 0);
     let mut out = [7u8; 10];
     match Frequency::from_text(b"1546500") {
