@@ -16,15 +16,7 @@ pub printable_all : (t : List ℕ) → printable t ≡ list_all (is_in_range 32 
 printable_all [] = refl
 printable_all (c ∷ cs) = ap (λ b. is_in_range 32 126 c && b) (printable_all cs)
 
-pub legal_filled : (S : MakeSpec) (k : Kind) (f : ℕ) (t : List ℕ) → 0 < length t → field_legal S k f t ≡ legal_at S k f t
-legal_filled S k f [] h = absurd (omega arith)
-legal_filled S k f (c ∷ t) h = refl
-
 -- a line has at most one field more than bytes
-glue_length : (c : ℕ) (ps : List (List ℕ)) → length (glue c ps) ≤ length ps + 1
-glue_length c [] = omega arith
-glue_length c (p ∷ ps) = omega arith
-
 glue_same : (c : ℕ) (ps : List (List ℕ)) → 0 < length ps → length (glue c ps) ≡ length ps
 glue_same c [] h = absurd (omega arith)
 glue_same c (p ∷ ps) h = refl
@@ -48,9 +40,6 @@ few_left f = few_from f.line.now f.start
 -- a cursor gives the fields that it has still to hand out
 pub hands_out : (f : Fields) → YieldsList HandsOut text_of f (fields_left f)
 hands_out = YieldsList-from_shown HandsOut text_of fields_left (λ s t h. ap length h.0.0) (λ s x t h. h.0)
-
-pub cuts_first : (t : List ℕ) (p : List ℕ) (ps : List (List ℕ)) → cuts t ≡ p ∷ ps → (get_or (cuts t) 0 [] ≡ p) × (drop 1 (cuts t) ≡ ps)
-cuts_first t p ps e = (ap (λ qs. get_or qs 0 []) e, ap (drop 1) e)
 
 pub cuts_none : (t : List ℕ) → cuts t ≡ [] → ⊥
 cuts_none t e = let h = cuts_some t in let z = ap length e in omega arith

@@ -47,17 +47,7 @@ fn width_of(n: u32) -> usize
     requires { n < 100000 }
     ensures { (fixed result n ≡ decimal n) × (result ≡ length (decimal n)) × (result ≤ 5) }
 {
-    if n < 10 {
-        1
-    } else if n < 100 {
-        2
-    } else if n < 1000 {
-        3
-    } else if n < 10000 {
-        4
-    } else {
-        5
-    }
+    n.max(1).ilog10() as usize + 1
 }
 
 // Writes the last `width` digits of `n`.

@@ -1,6 +1,6 @@
 // Examples of the text layer.
 use crate::buffer::put_bytes;
-use crate::field::{Fields, Part};
+use crate::field::Fields;
 use crate::frequency::Frequency;
 use crate::number::{put_number, read_number};
 use crate::signed::{put_signed, read_signed};
@@ -42,13 +42,9 @@ fn frequencies(rt: HostRuntime) -> Result<(), Fail> {
     assert!(rt; Frequency::try_from(1).is_err());
     assert_eq!(rt; Frequency::from_row(1).steps(), 0);
     let mut out = [7u8; 10];
-    match Frequency::from_text(b"1546500") {
-        Some(f) => {
-            assert_eq!(rt; f.steps(), 1546500);
-            assert_eq!(rt; f.put(&mut out, 1), 9);
-        }
-        None => return Err(Fail::new("refused")),
-    }
+    let f = Frequency::from_text(b"1546500").ok_or("refused")?;
+    assert_eq!(rt; f.steps(), 1546500);
+    assert_eq!(rt; f.put(&mut out, 1), 9);
     assert!(rt; out == *b"\x0701546500\x07");
     Ok(())
 }
@@ -57,21 +53,14 @@ fn frequencies(rt: HostRuntime) -> Result<(), Fail> {
 fn fields(rt: HostRuntime) -> Result<(), Fail> {
     let mut fields = Fields::of(b"CIN,,bc,");
     assert!(rt; fields.next().is_some());
-    match fields.next() {
-        Some(None) => {}
-        _ => return Err(Fail::new("filled")),
-    }
-    match fields.next() {
-        Some(Some(Part { bytes, at })) => {
-            assert_eq!(rt; at, 5);
-            assert!(rt; bytes == b"bc".as_slice());
-        }
-        _ => return Err(Fail::new("left out")),
-    }
-    match fields.next() {
-        Some(None) => {}
-        _ => return Err(Fail::new("no field behind the last comma")),
-    }
+    assert!(rt; matches!(fields.next(), Some(None)), "filled");
+    let part = fields.next().flatten().ok_or("left out")?;
+    assert_eq!(rt; part.at, 5);
+    assert!(rt; part.bytes == b"bc".as_slice());
+    assert!(rt;
+        matches!(fields.next(), Some(None)),
+        "no field behind the last comma"
+    );
     assert!(rt; fields.next().is_none());
     let mut out = [7u8; 4];
     assert_eq!(rt; put_bytes(&mut out, 1, b"OK"), 3);
