@@ -1,6 +1,7 @@
 -- The commands: their letters, what fields each takes, and which are taken while the mode is off. Assumes nothing.
-use Rattle.std.specs.Prelude.{ℕ, ◌+◌, Bool, true, false, cond, ◌||◌, List, [], ◌∷◌, length, Some, None, codes, Option, ◌==◌}
+use Rattle.std.specs.Prelude.{ℕ, ◌+◌, Bool, true, false, ◌||◌, List, [], ◌∷◌, length, codes, Option, ◌==◌}
 use Rattle.std.specs.Str.{bytes_eq}
+use Rattle.std.specs.List.{find}
 use Rattle.make.specs.declared.kind.Kind.TheVariants.{System, Site, ChannelGroup, Channel, Talkgroup, TrunkFrequency}
 use Rattle.make.specs.Data.{MakeSpec, fields_of}
 use Rattle.ledger.specs.declared.mode.Mode.{Mode}
@@ -42,14 +43,9 @@ name_of Tfq = codes "TFQ"
 abbrev pub commands : List Command
 commands = Prg ∷ Epg ∷ Clr ∷ Sct ∷ Sih ∷ Sit ∷ Rmb ∷ Csy ∷ Agc ∷ Ast ∷ Agt ∷ Acc ∷ Act ∷ Dsy ∷ Dgr ∷ Dch ∷ Fwd ∷ Rev ∷ Trn ∷ Sin ∷ Sif ∷ Gin ∷ Cin ∷ Tin ∷ Tfq ∷ []
 
--- the command of a list that has those letters
-abbrev pub command_in : List Command → List ℕ → Option Command
-command_in [] t = None
-command_in (c ∷ cs) t = cond (bytes_eq t (name_of c)) (Some c) (command_in cs t)
-
 -- the command that has those letters
 unfoldable pub command_of : List ℕ → Option Command
-command_of t = command_in commands t
+command_of t = find (λ c. bytes_eq (name_of c) t) commands
 
 -- what fields a command takes
 abbrev pub takes_of : Command → Takes

@@ -11,8 +11,7 @@ use text::number::read_number;
 pub fn read_index(text: &[u8], count: u32) -> Option<Index>
     ensures value { option_map (λ (i : Index). i.number) result ≡ index_in count text.now }
 {
-    match read_number(text) {
-        Some(n) => { if n <= count { Index::new(n) } else { None } }
-        None => None,
-    }
+    read_number(text)
+        .filter(|n| *n <= count)
+        .and_then(Index::new)
 }

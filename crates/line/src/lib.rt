@@ -1,7 +1,6 @@
 // Lines: their bytes, their command and their fields, and which records a command is for.
 #![tactic(auto)]
 
-pub mod command;
 pub mod index;
 pub mod parts;
 pub mod records;

@@ -1,87 +1,69 @@
-// The parts of a line: its bytes, its command, its fields and how many there are.
-ghost use Rattle.std.specs.Prelude.{◌≡◌, ◌+◌, ◌≤◌, [], length, drop, Some, None, MatchOption, slice_index_or};
+// The parts of a line: its bytes, its command, and its fields with how many there are.
+ghost use Rattle.std.specs.Prelude.{◌≡◌, ◌≤◌, [], length, drop, Some, None, MatchOption, slice_index_or};
 ghost use Rattle.text.specs.Fields.{fields_left, text_of};
 ghost use Rattle.ledger.specs.Lines.{printable, command, fields};
 
-use crate::command::command_of;
 use ledger::command::Command;
-use text::field::{Field, Fields};
+use text::field::{Fields, Part};
 
 // Whether every byte is from 32 to 126.
 pub fn is_printable(line: &[u8]) -> bool
     ensures value { result ≡ printable line.now }
 {
-    for b in line {
-        if *b < 32 || *b > 126 {
-            return false;
-        }
-    }
-    true
+    line.iter().all(|b| matches!(b, 32..=126))
 }
 
-// How many fields a cursor has still to hand out.
-pub fn count_left(fields: Fields<'_>) -> usize
-    requires few { length (fields_left fields) ≤ 1000 }
-    ensures value { result ≡ length (fields_left fields.entry) }
-{
-    let mut rest = fields;
-    let mut n = 0;
-    while rest.next_field().is_some() {
-        n += 1;
-    }
-    n
+// The fields behind a command, and how many there are.
+#[derive(Clone, Copy)]
+pub struct Arguments<'a> {
+    pub fields: Fields<'a>,
+    pub count: usize,
+    ghost counted: { count ≡ length (fields_left fields) },
 }
 
 // A line that begins with a command, cut up.
 #[derive(Clone, Copy)]
 pub struct Parts<'a> {
     pub command: Command,
-    // the fields behind the command
-    pub fields: Fields<'a>,
-    pub count: usize,
+    pub arguments: Arguments<'a>,
 }
 
 // The bytes of a field: none where it is left out.
-pub fn bytes_of<'a>(field: Field<'a>) -> &'a [u8]
+pub fn bytes_of<'a>(field: Option<Part<'a>>) -> &'a [u8]
     ensures value { result.now ≡ text_of field.entry }
 {
-    match field {
-        Field::LeftOut => &[],
-        Field::Part { bytes, .. } => bytes,
+    field.map_or(&[], |part| part.bytes)
+}
+
+impl<'a> Arguments<'a> {
+    // The bytes of the first field: none where it is left out or there is no field.
+    pub fn first(self) -> &'a [u8]
+        ensures value { result.now ≡ slice_index_or (fields_left self.entry.fields) 0 [] }
+    {
+        let mut fields = self.fields;
+        bytes_of(fields.next().flatten())
+    }
+
+    // The fields behind the first.
+    pub fn rest(self) -> Fields<'a>
+        ensures value { fields_left result ≡ drop 1 (fields_left self.entry.fields) }
+    {
+        let mut fields = self.fields;
+        let _ = fields.next();
+        fields
     }
 }
 
 // The command of a line and its fields, or `None` where the command is unknown.
 pub fn parts_of<'a>(line: &'a [u8]) -> Option<Parts<'a>>
-    requires few { length line.now ≤ 256 }
-    ensures value { MatchOption result (command line.now ≡ None) (λ p. (command line.now ≡ Some p.command) × (fields_left p.fields ≡ fields line.now) × (p.count ≡ length (fields line.now))) }
+    ensures value { MatchOption result (command line.now ≡ None) (λ p. (command line.now ≡ Some p.command) × (fields_left p.arguments.fields ≡ fields line.now)) }
 {
     let mut fields = Fields::of(line);
-    match fields.next_field() {
-        Some(first) => {
-            match command_of(bytes_of(first)) {
-                Some(command) => {
-                    let count = count_left(fields);
-                    Some(Parts {
-                        command,
-                        fields,
-                        count,
-                    })
-                }
-                None => None,
-            }
-        }
-        None => None,
-    }
-}
-
-// The next field's bytes: none where it is left out or there is no more field.
-pub fn next_bytes<'a>(fields: &mut Fields<'a>) -> &'a [u8]
-    ensures value { result.now ≡ slice_index_or (fields_left fields.old) 0 [] }
-    ensures after { fields_left fields.new ≡ drop 1 (fields_left fields.old) }
-{
-    match fields.next_field() {
-        Some(field) => bytes_of(field),
-        None => &[],
-    }
+    let first = fields.next()?;
+    let command = Command::from_letters(bytes_of(first))?;
+    let count = fields.count();
+    Some(Parts {
+        command,
+        arguments: Arguments { fields, count },
+    })
 }

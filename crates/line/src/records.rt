@@ -1,7 +1,7 @@
 // Which records a command is for, and what members a record has.
-ghost use Rattle.std.specs.Prelude.{◌≡◌, ℕ, List, ◌==◌};
+ghost use Rattle.std.specs.Prelude.{◌≡◌, ℕ, List};
 ghost use Rattle.ledger.specs.Ledger.{Holding, type_for};
-ghost use Rattle.ledger.specs.Records.{is_for, member_kind, kind_number};
+ghost use Rattle.ledger.specs.Records.{is_for, member_kind};
 
 use ledger::command::Command;
 use make::Kind;
@@ -39,26 +39,4 @@ pub fn member_kind(kind: Kind) -> Kind
         Kind::ChannelGroup | Kind::Channel => Kind::Channel,
         Kind::TalkgroupGroup | Kind::Talkgroup => Kind::Talkgroup,
     }
-}
-
-// The number of a kind.
-pub fn kind_number(kind: Kind) -> u8
-    ensures value { result ≡ kind_number kind }
-{
-    match kind {
-        Kind::System => 1,
-        Kind::Site => 2,
-        Kind::ChannelGroup => 3,
-        Kind::TalkgroupGroup => 4,
-        Kind::Channel => 5,
-        Kind::Talkgroup => 6,
-        Kind::TrunkFrequency => 7,
-    }
-}
-
-// Whether two kinds are the same.
-pub fn same_kind(a: Kind, b: Kind) -> bool
-    ensures value { result ≡ (kind_number a == kind_number b) }
-{
-    kind_number(a) == kind_number(b)
 }

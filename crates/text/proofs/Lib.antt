@@ -3,4 +3,3 @@ pub mod Texts
 pub mod Signs
 pub mod Pieces
 pub mod Puts
-pub mod Cursor

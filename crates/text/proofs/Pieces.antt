@@ -1,60 +1,55 @@
 -- The steps of a walk over the pieces. Assumes nothing.
-use Rattle.std.proofs.Common.{◌≡◌, ℕ, zero, suc, ◌+◌, ◌<◌, ◌≤◌, Bool, true, false, cond, ◌||◌, eqb, ltb, List, [], ◌∷◌, ◌++◌, length, get_or, take, drop, sym, refl, ap, ◌∙◌, append_assoc, append-nil, arith, length-drop}
-use Rattle.std.proofs.lemmas.List.{take_more, drop_more, drop_all, drop-drop}
-use Rattle.std.proofs.lemmas.Bool.{ne_eqb, lt-ltb, le-ltb, eq-eqb, eqb-true, eqb-false}
-use Rattle.text.specs.Cuts.{glue, cuts, following, joined}
+use Rattle.std.proofs.Common.{◌≡◌, ℕ, zero, suc, ◌+◌, ◌-◌, ◌<◌, ◌≤◌, Bool, true, false, cond, not, eqb, ltb, List, [], ◌∷◌, length, get_or, take, drop, Some, None, Option, sym, refl, ap, ◌∙◌, arith, length-drop}
+use Rattle.std.proofs.lemmas.List.{drop-drop}
+use Rattle.std.proofs.lemmas.Bool.{ltb-true, ltb-false, lt-ltb, le-ltb, eqb-true, eqb-false}
+use Rattle.std.proofs.lemmas.List.Sums.{prefix_len-le-length}
+use Rattle.std.specs.List.{position, position_or_len}
+use Rattle.text.specs.Fields.{cuts_from}
+use Rattle.std.proofs.lemmas.Bool.Decides.{nat_tests}
+use Rattle.std.specs.Option.{unwrap_or, option_map}
+use Rattle.text.specs.Cuts.{is_comma, glue, cuts, joined}
 
--- the pieces that are left at a place of a line
-abbrev pub left : Bool → List ℕ → ℕ → List (List ℕ)
-left ended line at = cond (ended || ltb (length line) at) [] (cuts (drop at line))
+-- a line cut at its first comma
+cut_at : (t : List ℕ) → cuts t ≡ take (position_or_len is_comma t) t ∷ cond (ltb (position_or_len is_comma t) (length t)) (cuts (drop (position_or_len is_comma t + 1) t)) []
+cut_at [] = refl
+cut_at (c ∷ cs) =
+    let e : 1 + n ≡ suc n = omega arith in
+    let f : 1 + n + 1 ≡ suc (n + 1) = omega arith in
+    let g : ltb (1 + n) (suc (length cs)) ≡ ltb n (length cs) = grind (arith, nat_tests) in
+    elim (eqb c 44) as (λ b. cond b ([] ∷ cuts cs) (glue c (cuts cs)) ≡ take (cond (not b) (1 + n) 0) (c ∷ cs) ∷ cond (ltb (cond (not b) (1 + n) 0) (length (c ∷ cs))) (cuts (drop (cond (not b) (1 + n) 0 + 1) (c ∷ cs))) []) [
+      | true ↦ sym (ap (λ b. [] ∷ cond b (cuts cs) []) (lt-ltb 0 (suc (length cs)) (omega arith)))
+      | false ↦ ap (glue c) (cut_at cs) ∙ ap (λ b. (c ∷ take n cs) ∷ cond b (cuts (drop (n + 1) cs)) []) (sym g) ∙ ap (λ k. take k (c ∷ cs) ∷ cond (ltb (1 + n) (suc (length cs))) (cuts (drop (n + 1) cs)) []) (sym e) ∙ ap (λ k. take (1 + n) (c ∷ cs) ∷ cond (ltb (1 + n) (suc (length cs))) (cuts (drop k (c ∷ cs))) []) (sym f)
+    ] where
+      n : ℕ
+      n = position_or_len is_comma cs
 
-open_left : (line : List ℕ) (at : ℕ) (ended : Bool) → ended ≡ false → at ≤ length line → left ended line at ≡ cuts (drop at line)
-open_left line at ended on within = ap (λ b. cond (b || ltb (length line) at) [] (cuts (drop at line))) on ∙ ap (λ b. cond b [] (cuts (drop at line))) (le-ltb (length line) at within)
+pub cut_first : (t : List ℕ) → cuts t ≡ take (unwrap_or (position is_comma t) (length t)) t ∷ cuts_from t (option_map (λ k. k + 1) (position is_comma t))
+cut_first t = by (ltb n (length t)) refl where
+  n : ℕ
+  n = position_or_len is_comma t
 
--- p before the first piece
-abbrev pub before : List ℕ → List (List ℕ) → List (List ℕ)
-before p [] = p ∷ []
-before p (q ∷ qs) = (p ++ q) ∷ qs
+  by : (b : Bool) → ltb n (length t) ≡ b → cuts t ≡ take (unwrap_or (cond b (Some n) None) (length t)) t ∷ cuts_from t (option_map (λ k. k + 1) (cond b (Some n) None))
+  by true h = cut_at t ∙ ap (λ b. take n t ∷ cond b (cuts (drop (n + 1) t)) []) h ∙ ap (λ b. take n t ∷ cond b [] (cuts (drop (n + 1) t))) (sym (le-ltb (length t) (n + 1) (let lt = ltb-true n (length t) h in omega arith)))
+  by false h =
+      let all : n ≡ length t = omega (arith, ltb-false n (length t) h, prefix_len-le-length (λ c. not (is_comma c)) t) in
+      cut_at t ∙ ap (λ b. take n t ∷ cond b (cuts (drop (n + 1) t)) []) h ∙ ap (λ k. take k t ∷ []) all
 
-before_glue : (p : List ℕ) (c : ℕ) (qs : List (List ℕ)) → before p (glue c qs) ≡ before (p ++ (c ∷ [])) qs
-before_glue p c [] = refl
-before_glue p c (q ∷ qs) = ap (λ t. t ∷ qs) (sym (append_assoc p (c ∷ []) q))
+-- the pieces of a rest of a line, counted from the start of that line
+cuts_behind : (line : List ℕ) (at : ℕ) (next : Option ℕ) → at ≤ length line → cuts_from (drop at line) (option_map (λ k. k + 1) next) ≡ cuts_from line (option_map (λ k. at + k + 1) next)
+cuts_behind line at None h = refl
+cuts_behind line at (Some k) h =
+    let room : ltb (length line - at) (k + 1) ≡ ltb (length line) (at + k + 1) = grind (arith, nat_tests) in
+    ap (λ b. cond b [] (cuts (drop (k + 1) (drop at line)))) (ap (λ n. ltb n (k + 1)) (length-drop at line) ∙ room) ∙ ap (λ t. cond (ltb (length line) (at + k + 1)) [] (cuts t)) (drop-drop (k + 1) at line ∙ ap (λ n. drop n line) (omega arith))
 
-pub none : (t : List ℕ) → cuts t ≡ before [] (cuts t)
-none [] = refl
-none (c ∷ cs) = elim (eqb c 44) as (λ b. cond b ([] ∷ cuts cs) (glue c (cuts cs)) ≡ before [] (cond b ([] ∷ cuts cs) (glue c (cuts cs)))) [ true ↦ refl | false ↦ some (cuts cs) ] where
-  some : (ps : List (List ℕ)) → glue c ps ≡ before [] (glue c ps)
-  some [] = refl
-  some (p ∷ ps) = refl
+-- the piece of a line at a place, and the pieces behind it
+pub cut_here : (line rest : List ℕ) (at : ℕ) → at ≤ length line → rest ≡ drop at line → cuts_from line (Some at) ≡ take (unwrap_or (position is_comma rest) (length rest)) rest ∷ cuts_from line (option_map (λ k. at + k + 1) (position is_comma rest))
+cut_here line rest at h e =
+    ap (λ b. cond b [] (cuts (drop at line))) (le-ltb (length line) at h) ∙ ap cuts (sym e) ∙ cut_first rest ∙ ap (λ ps. take (unwrap_or (position is_comma rest) (length rest)) rest ∷ ps) (ap (λ t. cuts_from t (option_map (λ k. k + 1) (position is_comma rest))) e ∙ cuts_behind line at (position is_comma rest) h)
 
-pub more : (t : List ℕ) (i : ℕ) → i < length t → (get_or t i 0 ≡ 44 → ⊥) → cuts t ≡ before (take i t) (cuts (drop i t)) → cuts t ≡ before (take (i + 1) t) (cuts (drop (i + 1) t))
-more t i h ne inv =
-    inv ∙ ap (λ s. before (take i t) (cuts s)) (drop_more t i 0 h) ∙ ap (λ b. before (take i t) (cond b ([] ∷ cuts (drop (i + 1) t)) (glue (get_or t i 0) (cuts (drop (i + 1) t))))) (ne_eqb (get_or t i 0) 44 ne) ∙ before_glue (take i t) (get_or t i 0) (cuts (drop (i + 1) t)) ∙ ap (λ p. before p (cuts (drop (i + 1) t))) (sym (take_more t i 0 h))
-
-pub comma : (t : List ℕ) (i : ℕ) → i < length t → get_or t i 0 ≡ 44 → cuts t ≡ before (take i t) (cuts (drop i t)) → cuts t ≡ take i t ∷ following i t
-comma t i h e inv =
-    inv ∙ ap (λ s. before (take i t) (cuts s)) (drop_more t i 0 h) ∙ ap (λ b. before (take i t) (cond b ([] ∷ cuts (drop (i + 1) t)) (glue (get_or t i 0) (cuts (drop (i + 1) t))))) (eq-eqb (get_or t i 0) 44 e) ∙ ap (λ p. p ∷ cuts (drop (i + 1) t)) (append-nil (take i t)) ∙ ap (λ b. take i t ∷ cond b (cuts (drop (i + 1) t)) []) (sym (lt-ltb i (length t) h))
-
-pub ended : (t : List ℕ) (i : ℕ) → length t ≡ i → cuts t ≡ before (take i t) (cuts (drop i t)) → cuts t ≡ take i t ∷ following i t
-ended t i e inv =
-    inv ∙ ap (λ s. before (take i t) (cuts s)) (drop_all i t (omega arith)) ∙ ap (λ p. p ∷ []) (append-nil (take i t)) ∙ ap (λ b. take i t ∷ cond b (cuts (drop (i + 1) t)) []) (sym (le-ltb i (length t) (omega arith)))
-
--- one piece on
-pub follows : (t : List ℕ) (n : ℕ) → n < length t → cuts t ≡ take n t ∷ following n t → cuts t ≡ take n t ∷ cuts (drop (n + 1) t)
-follows t n h e = e ∙ ap (λ b. take n t ∷ cond b (cuts (drop (n + 1) t)) []) (lt-ltb n (length t) h)
-
-pub last : (t : List ℕ) (n : ℕ) → n ≡ length t → cuts t ≡ take n t ∷ following n t → cuts t ≡ take n t ∷ []
-last t n h e = e ∙ ap (λ b. take n t ∷ cond b (cuts (drop (n + 1) t)) []) (le-ltb n (length t) (omega arith))
-
--- what a cursor hands out: the last piece, or one with more behind it
-pub hand_last : (line : List ℕ) (at n : ℕ) (ended : Bool) → ended ≡ false → at ≤ length line → n ≡ length (drop at line) → cuts (drop at line) ≡ take n (drop at line) ∷ following n (drop at line) → left ended line at ≡ take n (drop at line) ∷ []
-hand_last line at n ended on within e piece = open_left line at ended on within ∙ last (drop at line) n e piece
-
-pub hand_more : (line : List ℕ) (at n : ℕ) (ended : Bool) → ended ≡ false → at ≤ length line → n < length (drop at line) → cuts (drop at line) ≡ take n (drop at line) ∷ following n (drop at line) → left ended line at ≡ take n (drop at line) ∷ left ended line (at + n + 1)
-hand_more line at n ended on within some piece =
-    let long = length-drop at line in
-    let next : cuts (drop (n + 1) (drop at line)) ≡ left ended line (at + n + 1) = ap cuts (drop-drop (n + 1) at line ∙ ap (λ k. drop k line) (omega arith)) ∙ sym (open_left line (at + n + 1) ended on (omega arith)) in
-    open_left line at ended on within ∙ follows (drop at line) n some piece ∙ ap (λ ps. take n (drop at line) ∷ ps) next
+pub take_own : (n : ℕ) (t : List ℕ) → take (length (take n t)) t ≡ take n t
+take_own zero t = refl
+take_own (suc n) [] = refl
+take_own (suc n) (c ∷ t) = ap (λ s. c ∷ s) (take_own n t)
 
 -- the pieces joined again
 joined_glue : (c : ℕ) (ps : List (List ℕ)) → joined (glue c ps) ≡ c ∷ joined ps

@@ -1,12 +1,8 @@
 -- Laws of text put into a buffer. Assumes nothing.
-use Rattle.std.proofs.Common.{◌≡◌, ℕ, suc, ◌+◌, ◌-◌, ◌<◌, ◌≤◌, List, [], ◌∷◌, ◌++◌, length, take, drop, set, sym, ap, ◌∙◌, append_assoc, arith, length-append, length-drop}
+use Rattle.std.proofs.Common.{◌≡◌, ℕ, ◌+◌, ◌≤◌, List, ◌++◌, length, take, drop, sym, ap, ◌∙◌, append_assoc, arith, length-append}
 use borrow.Rule.Slice.PartMut.{put_mid}
-use Rattle.std.proofs.lemmas.List.{append-nil, drop_all, take_rest, drop-drop, take_more_set, drop-set-lt, take_at, drop_at, length-take-le}
+use Rattle.std.proofs.lemmas.List.{drop-drop, take_at, drop_at, length-take-le}
 use Rattle.text.specs.Buffer.{put}
-
-pub length-put : (o a : List ℕ) (at : ℕ) → at + length a ≤ length o → length (put o at a) ≡ length o
-length-put o a at h =
-    length-append (take at o) _ ∙ ap (λ n. length (take at o) + n) (length-append a _) ∙ omega (arith, length-take-le at o (omega arith), length-drop (at + length a) o)
 
 -- one text after another
 pub put_put : (o a b : List ℕ) (at : ℕ) → at + length a ≤ length o → put (put o at a) (at + length a) b ≡ put o at (a ++ b)
@@ -21,14 +17,3 @@ put_put o a b at h =
 
 pub part_put : (x t : List ℕ) (p : ℕ) → put_mid p (length t) x t ≡ put x p t
 part_put x t p = ap (λ z. take p x ++ (t ++ z)) (drop-drop (length t) p x)
-
--- a call that writes t at the front of `&mut x[p..]`
-pub put_rest : (x ys t : List ℕ) (p : ℕ) → p ≤ length x → ys ≡ t ++ drop (length t) (take (length x - p) (drop p x)) → put_mid p (length x - p) x ys ≡ put x p t
-put_rest x ys t p h e =
-    let none : drop (length x - p) (drop p x) ≡ [] = drop_all (length x - p) (drop p x) (omega (arith, length-drop p x)) in
-    ap (λ z. take p x ++ (ys ++ z)) none ∙ ap (λ z. take p x ++ z) (append-nil ys ∙ e ∙ ap (λ z. t ++ drop (length t) z) (take_rest x p) ∙ ap (λ z. t ++ z) (drop-drop (length t) p x))
-
-pub put_after : (o t : List ℕ) (c at : ℕ) → at < length o → put (set o at c) (at + 1) t ≡ put o at (c ∷ t)
-put_after o t c at h =
-    let far : at + suc (length t) ≡ at + 1 + length t = omega arith in
-    ap (λ z. z ++ (t ++ drop (at + 1 + length t) (set o at c))) (take_more_set o at c h) ∙ ap (λ z. (take at o ++ (c ∷ [])) ++ (t ++ z)) (drop-set-lt (at + 1 + length t) o at c (omega arith)) ∙ append_assoc (take at o) (c ∷ []) (t ++ drop (at + 1 + length t) o) ∙ ap (λ n. take at o ++ (c ∷ (t ++ drop n o))) (sym far)

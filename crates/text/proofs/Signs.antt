@@ -1,38 +1,14 @@
 -- Signs in front of a number, read and shown. Assumes nothing.
-use Rattle.std.proofs.Common.{◌≡◌, ℕ, zero, suc, ◌-◌, ◌<◌, ◌≤◌, Bool, true, false, cond, ◌||◌, eqb, ltb, List, [], ◌∷◌, length, get_or, take, drop, ℤ, pos, negsuc, neg_ℤ, nat_abs, decimal, sym, refl, ap, ◌∙◌, arith}
-use lib.Signed.{lt_z}
+use Rattle.std.proofs.Common.{◌≡◌, ℕ, zero, suc, ◌<◌, ◌≤◌, Bool, true, false, cond, ◌||◌, eqb, List, [], ◌∷◌, length, get_or, drop, ℤ, pos, negsuc, neg_ℤ, nat_abs, decimal, refl, ap, ◌∙◌, arith}
 use Rattle.std.specs.Char.{is_ascii_digit}
-use Rattle.std.specs.Fmt.{signed_decimal}
 use Rattle.std.specs.Str.{all_ascii_digits}
-use Rattle.std.proofs.lemmas.List.{take_rest}
-use Rattle.std.proofs.lemmas.Bool.{eq-eqb, ne_eqb, or_right, and_parts, both_ways, le-ltb}
+use Rattle.std.proofs.lemmas.Bool.{ne_eqb, and_parts}
 use Rattle.std.proofs.lemmas.Bool.Decides.{nat_tests}
 use Rattle.std.proofs.lemmas.Fmt.{digits_decimal, decimal_nonempty}
 use Rattle.text.specs.Number.{is_number, value}
 use Rattle.text.specs.Signed.{minus, unsigned, is_signed, signed_of}
 use Rattle.text.specs.Laws.{SignedStands}
 use Rattle.text.proofs.Texts.{own, value_below, decimal_number, decimal_value}
-
-pub sign_none : (t : List ℕ) → length t ≡ 0 → (false ≡ minus t) × (t ≡ unsigned t)
-sign_none [] h = (refl, refl)
-sign_none (c ∷ cs) h = absurd (omega arith)
-
-pub sign_minus : (t : List ℕ) → get_or t 0 0 ≡ 45 → (true ≡ minus t) × (take (length t - 1) (drop 1 t) ≡ unsigned t)
-sign_minus t h = let e = eq-eqb (get_or t 0 0) 45 h in (sym e, take_rest t 1 ∙ ap (λ b. cond (b || eqb (get_or t 0 0) 43) (drop 1 t) t) (sym e))
-
-pub sign_plus : (t : List ℕ) → get_or t 0 0 ≡ 43 → (false ≡ minus t) × (take (length t - 1) (drop 1 t) ≡ unsigned t)
-sign_plus t h =
-    let n = ne_eqb (get_or t 0 0) 45 (λ e. omega arith) in
-    let e = eq-eqb (get_or t 0 0) 43 h in
-    (sym n, take_rest t 1 ∙ ap (λ b. cond b (drop 1 t) t) (sym (or_right (minus t) (eqb (get_or t 0 0) 43) e)))
-
-pub signed_below : (z : ℤ) → lt_z z (pos 0) ≡ true → signed_decimal z ≡ 45 ∷ decimal (nat_abs z)
-signed_below (pos k) h = absurd (both_ways (ltb k 0) (le-ltb k 0 (omega arith)) h)
-signed_below (negsuc k) h = refl
-
-pub signed_from : (z : ℤ) → lt_z z (pos 0) ≡ false → signed_decimal z ≡ decimal (nat_abs z)
-signed_from (pos k) h = refl
-signed_from (negsuc k) h = let x : ◌≡◌ {A = ℕ} 0 1 = cc in absurd (omega arith)
 
 -- the first byte of a number that is shown is a digit
 digit_low : (c : ℕ) → is_ascii_digit c ≡ true → 48 ≤ c

@@ -1,5 +1,6 @@
 -- Numbers and their texts, both ways. Assumes nothing.
-use Rattle.std.proofs.Common.{◌≡◌, ℕ, zero, suc, ◌+◌, ◌-◌, ◌*◌, ◌/◌, ◌%◌, ◌^◌, ◌<◌, ◌≤◌, Bool, true, false, cond, ◌&&◌, ltb, leb, List, [], ◌∷◌, ◌++◌, length, Some, None, decimal, sym, refl, ap, ◌∙◌, pow-suc, arith, length-append, rules}
+use Rattle.std.proofs.Common.{◌≡◌, ℕ, zero, suc, ◌+◌, ◌-◌, ◌*◌, ◌/◌, ◌%◌, ◌^◌, ◌<◌, ◌≤◌, max, Bool, true, false, cond, ◌&&◌, ltb, leb, List, [], ◌∷◌, ◌++◌, length, Some, None, decimal, sym, refl, ap, ◌∙◌, pow-suc, arith, length-append, rules}
+use Rattle.std.proofs.Math.Nat.{one-le-pow}
 use Rattle.std.specs.Char.{is_ascii_digit}
 use Rattle.std.specs.Str.{all_ascii_digits}
 use Rattle.std.proofs.lemmas.Bool.{and_parts, and_from, le-leb, leb-true, ltb-true, lt-ltb}
@@ -14,11 +15,12 @@ pub own : IsNumeralModel (λ ds. all_ascii_digits ds ≡ true) (read_on 0)
 own = numerals_by_fold _ (search rules) read_on (search rules)
 
 -- `fixed` at the width that a number has
-pub fixed_one : (n : ℕ) → n < 10 → fixed 1 n ≡ decimal n
-fixed_one n h = let e : n % 10 ≡ n = omega arith in rw e (sym (decimal_digit n h))
-
-pub fixed_step : (k n : ℕ) → 10 ≤ n → n < 2 ^ 64 → fixed k (n / 10) ≡ decimal (n / 10) → fixed (suc k) n ≡ decimal n
-fixed_step k n ten h e = ap (λ t. t ++ ((48 + n % 10) ∷ [])) e ∙ sym (decimal_step n ten h)
+pub fixed_wide : (k n : ℕ) → 10 ^ k ≤ max n 1 → max n 1 < 10 * 10 ^ k → n < 2 ^ 64 → fixed (suc k) n ≡ decimal n
+fixed_wide zero n lo hi big = let h : n < 10 = omega arith in let e : n % 10 ≡ n = omega arith in rw e (sym (decimal_digit n h))
+fixed_wide (suc k) n lo hi big =
+    let p = pow-suc 10 k in
+    let one : 1 ≤ 10 ^ k = one-le-pow k 10 (omega arith) in
+    ap (λ t. t ++ ((48 + n % 10) ∷ [])) (fixed_wide k (n / 10) (omega arith) (omega arith) (omega arith)) ∙ sym (decimal_step n (omega arith) big)
 
 pub length-fixed : (k n : ℕ) → length (fixed k n) ≡ k
 length-fixed zero n = refl

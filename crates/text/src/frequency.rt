@@ -1,5 +1,5 @@
 // Frequencies in steps of 100 Hz: 0, or from 25 MHz to 1300 MHz.
-ghost use Rattle.std.specs.Prelude.{◌≡◌, ◌+◌, ◌≤◌, true, false, T, length, if◌then◌else◌, MatchOption};
+ghost use Rattle.std.specs.Prelude.{◌≡◌, ◌+◌, ◌≤◌, true, false, T, length, if◌then◌else◌, MatchOption, MatchResult};
 ghost use Rattle.text.specs.Buffer.{put};
 ghost use Rattle.text.specs.Frequency.{in_band, legal_frequency};
 ghost use Rattle.text.specs.Number.{value, fixed};
@@ -20,36 +20,38 @@ pub struct Frequency {
     ghost ok: { T (in_band steps) },
 }
 
-impl Frequency {
-    // The frequency of a number of steps, as a table's row holds it.
-    pub fn from_steps(steps: u32) -> Option<Frequency>
-        ensures { MatchOption result (in_band steps ≡ false) (λ f. (f.steps ≡ steps) × (in_band steps ≡ true)) }
-    {
-        if steps == 0 || (steps >= LOWEST && steps <= HIGHEST) {
-            Some(Frequency { steps })
-        } else {
-            None
+// A number of steps outside the band.
+#[derive(Clone, Copy, Debug, PartialEq, Eq)]
+pub struct OutOfBand;
+
+// The frequency of a number of steps, as a table's row holds it.
+impl TryFrom<u32> for Frequency {
+    type Error = OutOfBand;
+
+    ghost try_from_gives = { λ steps r. MatchResult r (λ f. (f.steps ≡ steps) × (in_band steps ≡ true)) (λ _. in_band steps ≡ false) };
+
+    fn try_from(steps: u32) -> Result<Frequency, OutOfBand> {
+        match steps {
+            0 | LOWEST..=HIGHEST => Ok(Frequency { steps }),
+            _ => Err(OutOfBand),
         }
     }
+}
 
+impl Frequency {
     // The frequency of a table's row: 0 where the row's number is none.
     pub fn from_row(steps: u32) -> Frequency
         ensures { result.steps ≡ (if in_band steps then steps else 0) }
     {
-        match Frequency::from_steps(steps) {
-            Some(frequency) => frequency,
-            None => Frequency { steps: 0 },
-        }
+        Frequency::try_from(steps).unwrap_or(Frequency { steps: 0 })
     }
 
     // The frequency that a text of one to eight digits writes.
     pub fn from_text(text: &[u8]) -> Option<Frequency>
         ensures { MatchOption result (legal_frequency text.now ≡ false) (λ f. (f.steps ≡ value text.now) × (legal_frequency text.now ≡ true)) }
     {
-        match read_digits(text, FREQUENCY_DIGITS) {
-            Some(steps) => Frequency::from_steps(steps),
-            None => None,
-        }
+        let steps = read_digits(text, FREQUENCY_DIGITS)?;
+        Frequency::try_from(steps).ok()
     }
 
     // The number of steps, as a table's row holds it.

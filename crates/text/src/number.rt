@@ -7,19 +7,20 @@ ghost use Rattle.text.specs.Number.{number_in, fixed};
 const NUMBER_DIGITS: usize = 5;
 
 // The number that one to `most` digits write.
+#[tactic(auto, using(crate::proofs::Steps::ten_fits))]
 pub(crate) fn read_digits(text: &[u8], most: usize) -> Option<u32>
     requires { most ≤ 9 }
     ensures { result ≡ number_in most text.now }
 {
-    if text.len() == 0 || text.len() > most {
+    if text.is_empty() || text.len() > most {
         return None;
     }
-    let mut n: u32 = 0;
+    let mut n = 0;
     for b in text {
-        if *b < b'0' || *b > b'9' {
+        if !b.is_ascii_digit() {
             return None;
         }
-        n = n * 10 + (*b - b'0') as u32;
+        n = n * 10 + u32::from(*b - b'0');
     }
     Some(n)
 }
@@ -35,11 +36,9 @@ pub fn read_number(text: &[u8]) -> Option<u32>
 pub(crate) fn fill_digits(n: u32, out: &mut [u8])
     ensures { out.new ≡ fixed (length out.old) n }
 {
-    let mut rest = n;
-    let width = out.len();
-    for i in (0..width).rev() {
-        out[i] = b'0' + (rest % 10) as u8;
-        rest = rest / 10;
+    if let Some((last, front)) = out.split_last_mut() {
+        *last = b'0' + (n % 10) as u8;
+        fill_digits(n / 10, front);
     }
 }
 
@@ -48,17 +47,7 @@ fn width_of(n: u32) -> usize
     requires { n < 100000 }
     ensures { (fixed result n ≡ decimal n) × (result ≡ length (decimal n)) × (result ≤ 5) }
 {
-    if n < 10 {
-        1
-    } else if n < 100 {
-        2
-    } else if n < 1000 {
-        3
-    } else if n < 10000 {
-        4
-    } else {
-        5
-    }
+    n.max(1).ilog10() as usize + 1
 }
 
 // Writes the last `width` digits of `n`.

@@ -1,6 +1,6 @@
 // Examples of the text layer.
 use crate::buffer::put_bytes;
-use crate::field::{Field, Fields};
+use crate::field::Fields;
 use crate::frequency::Frequency;
 use crate::number::{put_number, read_number};
 use crate::signed::{put_signed, read_signed};
@@ -39,16 +39,12 @@ fn frequencies(rt: HostRuntime) -> Result<(), Fail> {
     assert!(rt; Frequency::from_text(b"13000001").is_none());
     assert!(rt; Frequency::from_text(b"000250000").is_none());
     assert!(rt; Frequency::from_text(b"00000000").is_some());
-    assert!(rt; Frequency::from_steps(1).is_none());
+    assert!(rt; Frequency::try_from(1).is_err());
     assert_eq!(rt; Frequency::from_row(1).steps(), 0);
     let mut out = [7u8; 10];
-    match Frequency::from_text(b"1546500") {
-        Some(f) => {
-            assert_eq!(rt; f.steps(), 1546500);
-            assert_eq!(rt; f.put(&mut out, 1), 9);
-        }
-        None => return Err(Fail::new("refused")),
-    }
+    let f = Frequency::from_text(b"1546500").ok_or("refused")?;
+    assert_eq!(rt; f.steps(), 1546500);
+    assert_eq!(rt; f.put(&mut out, 1), 9);
     assert!(rt; out == *b"\x0701546500\x07");
     Ok(())
 }
@@ -56,23 +52,16 @@ fn frequencies(rt: HostRuntime) -> Result<(), Fail> {
 #[test]
 fn fields(rt: HostRuntime) -> Result<(), Fail> {
     let mut fields = Fields::of(b"CIN,,bc,");
-    assert!(rt; fields.next_field().is_some());
-    match fields.next_field() {
-        Some(Field::LeftOut) => {}
-        _ => return Err(Fail::new("filled")),
-    }
-    match fields.next_field() {
-        Some(Field::Part { bytes, at }) => {
-            assert_eq!(rt; at, 5);
-            assert!(rt; bytes == b"bc".as_slice());
-        }
-        _ => return Err(Fail::new("left out")),
-    }
-    match fields.next_field() {
-        Some(Field::LeftOut) => {}
-        _ => return Err(Fail::new("no field behind the last comma")),
-    }
-    assert!(rt; fields.next_field().is_none());
+    assert!(rt; fields.next().is_some());
+    assert!(rt; matches!(fields.next(), Some(None)), "filled");
+    let part = fields.next().flatten().ok_or("left out")?;
+    assert_eq!(rt; part.at, 5);
+    assert!(rt; part.bytes == b"bc".as_slice());
+    assert!(rt;
+        matches!(fields.next(), Some(None)),
+        "no field behind the last comma"
+    );
+    assert!(rt; fields.next().is_none());
     let mut out = [7u8; 4];
     assert_eq!(rt; put_bytes(&mut out, 1, b"OK"), 3);
     assert!(rt; out == [7, b'O', b'K', 7]);

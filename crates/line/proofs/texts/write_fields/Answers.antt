@@ -1,10 +1,11 @@
-use Rattle.std.proofs.Common.{◌≡◌, [], sym, ap, ◌∙◌, arith}
-use Rattle.std.proofs.lemmas.List.{nil_from_length}
+use Rattle.std.proofs.Common.{length, inl, ap, ◌∙◌, arith}
 use Rattle.text.specs.Fields.{fields_left}
-use Rattle.line.specs.Written.{fields_written}
+use Rattle.line.proofs.Reading.{few_left}
 use Rattle.line.proofs.texts.write_fields.Goals as goal
 
-pub returns : goal.returns
-returns g c =
-    let none : fields_left c.loop-number.rest ≡ [] = nil_from_length (fields_left c.loop-number.rest) (omega (arith, c.loop-number.invariant.1)) in
-    record { after = sym (ap (fields_written g.M.Make.written c.loop-number.record c.loop-number.number) none) ∙ c.loop-number.invariant.0 }
+pub loop-number-init-derived : goal.loop-number-init-derived
+loop-number-init-derived g c =
+    let e = c.into_iter-number-iterator.ensures.into_iter_gives in
+    let none = ap (λ i. i.count) e ∙ c.enumerate-number-items.ensures.count in
+    let left = ap (λ i. length (fields_left i.iter)) e ∙ ap (λ f. length (fields_left f)) c.enumerate-number-items.ensures.source in
+    ((tt, tt, inl (omega (arith, none, left, few_left c.args.fields, c.ranges.fields.1))), tt)
