@@ -12,12 +12,10 @@ use engine::{LONGEST_LINE, Session, find_target};
 use ledger::command::{Command, Takes};
 use ledger::mode::Mode;
 use ledger::refusal::Refusal;
-use line::command::takes;
-use line::parts::{Parts, is_printable, next_bytes, parts_of};
+use line::parts::{Arguments, Parts, is_printable, parts_of};
 use line::texts::fields_legal;
 use make::{Kind, Make};
 use memory::Memory;
-use text::field::Fields;
 
 // The block that a set line names, and the kind of the record there.
 #[derive(Clone, Copy)]
@@ -30,17 +28,14 @@ pub(crate) struct Found {
 fn judge_fields<M: Make>(
     memory: &Memory<'_, M>,
     command: Command,
-    count: usize,
-    fields: Fields<'_>,
+    arguments: Arguments<'_>,
 ) -> Result<Found, Refusal>
-    requires count { count ≡ length (fields_left fields) }
-    ensures value { verdict_of result ≡ named M.Make.spec (store_of M.Make memory.now.pool) (target (store_of M.Make memory.now.pool) command (slice_index_or (fields_left fields.entry) 0 [])) (drop 1 (fields_left fields.entry)) }
+    ensures value { verdict_of result ≡ named M.Make.spec (store_of M.Make memory.now.pool) (target (store_of M.Make memory.now.pool) command (slice_index_or (fields_left arguments.entry.fields) 0 [])) (drop 1 (fields_left arguments.entry.fields)) }
 {
-    let mut rest = fields;
-    let index = find_target(memory, command, next_bytes(&mut rest))?;
+    let index = find_target(memory, command, arguments.first())?;
     let record = memory.read(index);
     let kind = M::kind(&record);
-    if fields_legal::<M>(kind, count, rest) {
+    if fields_legal::<M>(kind, arguments.rest()) {
         Ok(Found { index, kind })
     } else {
         Err(Refusal::Wrong)
@@ -52,14 +47,12 @@ fn judge_count<M: Make>(
     memory: &Memory<'_, M>,
     command: Command,
     kind: Kind,
-    count: usize,
-    fields: Fields<'_>,
+    arguments: Arguments<'_>,
 ) -> Result<Found, Refusal>
-    requires count { count ≡ length (fields_left fields) }
-    ensures value { verdict_of result ≡ counted M.Make.spec (store_of M.Make memory.now.pool) command kind (fields_left fields.entry) }
+    ensures value { verdict_of result ≡ counted M.Make.spec (store_of M.Make memory.now.pool) command kind (fields_left arguments.entry.fields) }
 {
-    if count == M::field_count(kind) + 1 {
-        judge_fields(memory, command, count, fields)
+    if arguments.count == M::field_count(kind) + 1 {
+        judge_fields(memory, command, arguments)
     } else {
         Err(Refusal::Wrong)
     }
@@ -71,14 +64,13 @@ fn judge_parts<M: Make>(
     session: &Session,
     parts: Parts<'_>,
 ) -> Result<Found, Refusal>
-    requires count { parts.count ≡ length (fields_left parts.fields) }
-    ensures value { verdict_of result ≡ known M.Make.spec (ledger_of M.Make session.now memory.now.pool) (Some parts.entry.command) (fields_left parts.entry.fields) }
+    ensures value { verdict_of result ≡ known M.Make.spec (ledger_of M.Make session.now memory.now.pool) (Some parts.entry.command) (fields_left parts.entry.arguments.fields) }
 {
     let command = parts.command;
-    match (takes(command), session.mode) {
+    match (command.takes(), session.mode) {
         (Takes::RecordOf(_), Mode::Off) => Err(Refusal::ModeOff),
         (Takes::RecordOf(kind), Mode::On) => {
-            judge_count(memory, command, kind, parts.count, parts.fields)
+            judge_count(memory, command, kind, parts.arguments)
         }
         _ => Err(Refusal::Wrong),
     }

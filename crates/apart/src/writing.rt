@@ -13,7 +13,7 @@ use chain::Index;
 use engine::{LONGEST_LINE, Session, set};
 use ledger::mode::Mode;
 use ledger::refusal::Refusal;
-use line::parts::{Parts, next_bytes, parts_of};
+use line::parts::{Parts, parts_of};
 use make::{Kind, Make};
 use memory::Memory;
 use reply::told::{Reply, Told};
@@ -36,16 +36,13 @@ fn put_into<M: Make>(
     x: Index,
     kind: Kind,
 ) -> Result<Told<M::Record>, Refusal>
-    requires count { parts.count ≡ length (fields_left parts.fields) }
-    ensures { Gives M.Make memory.old.pool memory.new.pool parts.entry.command result (λ L. put_into M.Make.spec L parts.entry.command x.number kind (fields_left parts.entry.fields)) }
+    ensures { Gives M.Make memory.old.pool memory.new.pool parts.entry.command result (λ L. put_into M.Make.spec L parts.entry.command x.number kind (fields_left parts.entry.arguments.fields)) }
 {
-    let count = parts.count;
-    if !holds(memory, x, kind) || count != M::field_count(kind) + 1 {
+    let arguments = parts.arguments;
+    if !holds(memory, x, kind) || arguments.count != M::field_count(kind) + 1 {
         return Err(Refusal::Wrong);
     }
-    let mut rest = parts.fields;
-    next_bytes(&mut rest);
-    set(memory, x, count, rest)
+    set(memory, x, arguments.rest())
 }
 
 // Spends a tested line: writes its fields, if the mode is on.

@@ -13,7 +13,6 @@ use crate::session::Session;
 use ledger::command::Command;
 use ledger::mode::Mode;
 use ledger::refusal::Refusal;
-use line::command::{counts, takes};
 use line::parts::{Parts, is_printable, parts_of};
 use make::Make;
 use memory::Memory;
@@ -40,19 +39,18 @@ fn run<M: Make>(
     session: &mut Session,
     parts: Parts<'_>,
 ) -> Result<Told<M::Record>, Refusal>
-    requires count { parts.count ≡ length (fields_left parts.fields) }
-    ensures hears { Hears M.Make memory.old.pool memory.new.pool (said_by M.Make parts.entry.command result) (ledger_of M.Make session.new memory.new.pool) (known M.Make.spec (ledger_of M.Make session.old memory.old.pool) (Some parts.entry.command) (fields_left parts.entry.fields)) }
+    ensures hears { Hears M.Make memory.old.pool memory.new.pool (said_by M.Make parts.entry.command result) (ledger_of M.Make session.new memory.new.pool) (known M.Make.spec (ledger_of M.Make session.old memory.old.pool) (Some parts.entry.command) (fields_left parts.entry.arguments.fields)) }
     ensures shows { IfOk result Showable }
 {
     let command = parts.command;
-    let count = parts.count;
+    let arguments = parts.arguments;
     match (&mut session.mode, command) {
-        (mode, Command::Prg) => turn(mode, Mode::On, count),
-        (mode, Command::Epg) => turn(mode, Mode::Off, count),
+        (mode, Command::Prg) => turn(mode, Mode::On, arguments.count),
+        (mode, Command::Epg) => turn(mode, Mode::Off, arguments.count),
         (Mode::Off, _) => Err(Refusal::ModeOff),
         (Mode::On, _) => {
-            if counts::<M>(takes(command), count) {
-                carry_out(memory, command, count, parts.fields)
+            if command.takes().counts::<M>(arguments.count) {
+                carry_out(memory, command, arguments)
             } else {
                 Err(Refusal::Wrong)
             }

@@ -1,5 +1,5 @@
 // A command of the right count is carried out.
-ghost use Rattle.std.specs.Prelude.{◌≡◌, length};
+ghost use Rattle.std.specs.Prelude.{◌≡◌};
 ghost use Rattle.text.specs.Fields.{fields_left};
 ghost use Rattle.ledger.specs.Records.{target};
 ghost use Rattle.ledger.specs.Replies.{ends};
@@ -15,11 +15,10 @@ use crate::target::find_target;
 use chain::{Branch, Chain};
 use ledger::command::Command;
 use ledger::refusal::Refusal;
-use line::parts::next_bytes;
+use line::parts::Arguments;
 use make::{Kind, Make};
 use memory::Memory;
 use reply::told::Told;
-use text::field::Fields;
 
 // TRN: head and tail of the talkgroup groups of the trunked system that the line names.
 fn tell_talkgroups<M: Make>(
@@ -41,18 +40,15 @@ fn tell_talkgroups<M: Make>(
 fn read_or_set<M: Make>(
     memory: &mut Memory<'_, M>,
     command: Command,
-    count: usize,
-    fields: Fields<'_>,
+    arguments: Arguments<'_>,
 ) -> Result<Told<M::Record>, Refusal>
-    requires count { count ≡ length (fields_left fields) }
-    ensures { Gives M.Make memory.old.pool memory.new.pool command result (λ L. read_or_set M.Make.spec L command (fields_left fields.entry)) }
+    ensures { Gives M.Make memory.old.pool memory.new.pool command result (λ L. read_or_set M.Make.spec L command (fields_left arguments.entry.fields)) }
 {
-    let mut rest = fields;
-    let x = find_target(memory, command, next_bytes(&mut rest))?;
-    if count == 1 {
+    let x = find_target(memory, command, arguments.first())?;
+    if arguments.count == 1 {
         Ok(told_of(memory, x))
     } else {
-        set(memory, x, count, rest)
+        set(memory, x, arguments.rest())
     }
 }
 
@@ -60,14 +56,11 @@ fn read_or_set<M: Make>(
 pub(crate) fn carry_out<M: Make>(
     memory: &mut Memory<'_, M>,
     command: Command,
-    count: usize,
-    fields: Fields<'_>,
+    arguments: Arguments<'_>,
 ) -> Result<Told<M::Record>, Refusal>
-    requires count { count ≡ length (fields_left fields) }
-    ensures { Gives M.Make memory.old.pool memory.new.pool command result (λ L. done M.Make.spec L command (fields_left fields.entry)) }
+    ensures { Gives M.Make memory.old.pool memory.new.pool command result (λ L. done M.Make.spec L command (fields_left arguments.entry.fields)) }
 {
-    let mut rest = fields;
-    let text = next_bytes(&mut rest);
+    let text = arguments.first();
     match command {
         Command::Prg | Command::Epg => Ok(Told::Done),
         Command::Clr => {
@@ -98,6 +91,6 @@ pub(crate) fn carry_out<M: Make>(
         }
         Command::Trn => tell_talkgroups(memory, command, text),
         Command::Sin | Command::Sif | Command::Gin | Command::Cin | Command::Tin | Command::Tfq =>
-            read_or_set(memory, command, count, fields),
+            read_or_set(memory, command, arguments),
     }
 }

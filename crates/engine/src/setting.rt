@@ -19,16 +19,14 @@ use text::field::Fields;
 pub fn set<M: Make>(
     memory: &mut Memory<'_, M>,
     x: Index,
-    count: usize,
     fields: Fields<'_>,
 ) -> Result<Told<M::Record>, Refusal>
     requires living { living (store_of M.Make memory.old.pool) x.number ≡ true }
-    requires few { length (fields_left fields) ≤ count }
     ensures { (c : Command) → Gives M.Make memory.old.pool memory.new.pool c result (λ L. sets M.Make.spec L c x.number (holding L x.number) (fields_left fields.entry)) }
 {
     let record = memory.read(x);
-    if fields_legal::<M>(M::kind(&record), count, fields) {
-        memory.write(x, count, fields);
+    if fields_legal::<M>(M::kind(&record), fields) {
+        memory.write(x, fields);
         Ok(Told::Done)
     } else {
         Err(Refusal::Wrong)

@@ -43,16 +43,15 @@ impl<'a, M: Make> Memory<'a, M> {
     }
 
     // Writes the fields that a cursor has still to hand out into record `x`. All of them are left out or legal there.
-    pub fn write(&mut self, x: Index, count: usize, fields: Fields<'_>)
+    pub fn write(&mut self, x: Index, fields: Fields<'_>)
         requires living { living (store_of M.Make self.old.pool) x.number ≡ true }
-        requires few { length (fields_left fields) ≤ count }
         requires legal { fields_legal M.Make.spec (holding (store_of M.Make self.old.pool) x.number).kind 0 (fields_left fields) ≡ true }
         ensures store { (store_of M.Make self.new.pool) ≡ written M.Make.spec (store_of M.Make self.old.pool) x.number (holding (store_of M.Make self.old.pool) x.number) (fields_left fields.entry) }
         ensures records { self.new.pool.elements.now ≡ rewritten M.Make x.number (fields_left fields.entry) self.old.pool.elements.now }
         ensures spared { Spared self.old.pool self.new.pool }
     {
         let mut record = self.pool.read(x);
-        write_fields::<M>(&mut record, count, fields);
+        write_fields::<M>(&mut record, fields);
         self.pool.replace(x, record);
     }
 }

@@ -1,10 +1,10 @@
 -- One text behind another. Assumes nothing.
 use Rattle.std.proofs.Common.{◌≡◌, ℕ, ◌+◌, ◌-◌, ◌<◌, ◌≤◌, List, [], ◌∷◌, ◌++◌, length, slice_index_or, slice_range, take, drop, sym, refl, ap, ◌∙◌, subst, append_assoc, append-nil, add-zero, arith, length-append, length-drop}
-use Rattle.std.proofs.lemmas.List.{take-append-drop, take_more, take_all, get_or-drop}
+use Rattle.std.proofs.lemmas.List.{take-append-drop, take_more, take_all, get_or-drop, length-take-le}
 use Rattle.text.specs.Buffer.{put}
 use Rattle.text.specs.Writing.{Puts}
 use Rattle.text.specs.declared.writer.Writer.{Writer}
-use Rattle.text.proofs.Puts.{put_put, length-put}
+use Rattle.text.proofs.Puts.{put_put}
 use Rattle.ledger.specs.Replies.{listed, reply}
 use Rattle.reply.specs.Lists.{Lists}
 
@@ -66,6 +66,10 @@ pub replied : (w v u x : Writer) (name : List ℕ) (ts : List (List ℕ)) → Pu
 replied w v u x name ts p q r fits =
     subst (Puts w x) (append_assoc name (listed ts) (13 ∷ []))
     (puts_both w u x (name ++ listed ts) (13 ∷ []) (puts_both w v u name (listed ts) p q (omega (arith, q.end, fits))) r fits)
+
+length-put : (o a : List ℕ) (at : ℕ) → at + length a ≤ length o → length (put o at a) ≡ length o
+length-put o a at h =
+    length-append (take at o) _ ∙ ap (λ n. length (take at o) + n) (length-append a _) ∙ omega (arith, length-take-le at o (omega arith), length-drop (at + length a) o)
 
 -- a buffer keeps its length
 pub puts_length : (w v : Writer) (a : List ℕ) → Puts w v a → v.at ≤ length w.out.now → length v.out.now ≡ length w.out.now

@@ -13,7 +13,6 @@ use crate::pieces::{put_count, put_index, put_piece};
 use chain::Index;
 use ledger::command::Command;
 use ledger::refusal::Refusal;
-use line::command::letters;
 use make::{Kind, Make};
 use text::writer::Writer;
 
@@ -86,7 +85,7 @@ fn put_answer<M: Make>(w: &mut Writer<'_>, answer: &Result<Reply<M::Record>, Ref
 {
     match answer {
         Ok(reply) => {
-            w.put_bytes(letters(reply.command));
+            w.put_bytes(reply.command.letters());
             put_told::<M>(w, &reply.told);
             w.put_byte(b'\r');
         }
