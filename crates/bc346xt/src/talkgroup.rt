@@ -90,27 +90,15 @@ impl Settings for TalkgroupSettings {
             0 => if let Some(id) = read_between(text, 0, HIGHEST_ID) {
                 self.id = id as u16;
             },
-            1 => if let Some(lockout) = read_flag(text) {
-                self.lockout = lockout;
-            },
-            2 => if let Some(priority) = read_flag(text) {
-                self.priority = priority;
-            },
-            3 => if let Some(alert) = read_small(text, 0, HIGHEST_ALERT) {
-                self.alert = alert;
-            },
-            4 => if let Some(alert_level) = read_small(text, 0, HIGHEST_ALERT_LEVEL) {
-                self.alert_level = alert_level;
-            },
-            7 => if let Some(tag) = read_tag(text) {
-                self.tag = tag;
-            },
-            9 => if let Some(pattern) = read_small(text, 0, HIGHEST_PATTERN) {
-                self.pattern = pattern;
-            },
-            10 => if let Some(offset) = read_offset(text) {
-                self.offset = offset;
-            },
+            1 => self.lockout = read_flag(text).unwrap_or(self.lockout),
+            2 => self.priority = read_flag(text).unwrap_or(self.priority),
+            3 => self.alert = read_small(text, 0, HIGHEST_ALERT).unwrap_or(self.alert),
+            4 => self.alert_level = read_small(text, 0, HIGHEST_ALERT_LEVEL).unwrap_or(
+                self.alert_level,
+            ),
+            7 => self.tag = read_tag(text).unwrap_or(self.tag),
+            9 => self.pattern = read_small(text, 0, HIGHEST_PATTERN).unwrap_or(self.pattern),
+            10 => self.offset = read_offset(text).unwrap_or(self.offset),
             _ => {}
         }
     }

@@ -3,18 +3,18 @@ use Rattle.std.specs.Prelude.{refl}
 use Rattle.std.specs.Fmt.{digits}
 use Rattle.common.specs.Scheme.{SchemeKeeps}
 use Rattle.common.specs.SchemeLaws.{listed_keeps}
-use Rattle.bcd996t.specs.System.{system_rows, new_system, system_texts, system_puts, system_scheme}
-use Rattle.bcd996t.specs.Channel.{channel_rows, new_channel, channel_texts, channel_puts, channel_scheme}
-use Rattle.bcd996t.specs.Talkgroup.{talkgroup_rows, new_talkgroup, talkgroup_texts, talkgroup_puts, talkgroup_scheme}
+use Rattle.bcd996t.specs.System.{system_puts, system_scheme}
+use Rattle.bcd996t.specs.Channel.{channel_puts, channel_scheme}
+use Rattle.bcd996t.specs.Talkgroup.{talkgroup_puts, talkgroup_scheme}
 
 pub system_keeps : SchemeKeeps system_scheme
 unfolding digits
-system_keeps = listed_keeps system_rows 4 new_system system_texts system_puts refl (λ s. refl) (λ s t. refl) (λ s t. refl)
+system_keeps = listed_keeps system_puts refl (λ s. refl) (λ s t. refl) (λ s t. refl)
 
 pub channel_keeps : SchemeKeeps channel_scheme
 unfolding digits
-channel_keeps = listed_keeps channel_rows 9 new_channel channel_texts channel_puts refl (λ s. refl) (λ s t. refl) (λ s t. refl)
+channel_keeps = listed_keeps channel_puts refl (λ s. refl) (λ s t. refl) (λ s t. refl)
 
 pub talkgroup_keeps : SchemeKeeps talkgroup_scheme
 unfolding digits
-talkgroup_keeps = listed_keeps talkgroup_rows 5 new_talkgroup talkgroup_texts talkgroup_puts refl (λ s. refl) (λ s t. refl) (λ s t. refl)
+talkgroup_keeps = listed_keeps talkgroup_puts refl (λ s. refl) (λ s t. refl) (λ s t. refl)

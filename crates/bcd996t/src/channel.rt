@@ -87,39 +87,21 @@ impl Settings for ChannelSettings {
 
     fn write(&mut self, field: usize, text: &[u8]) {
         match field {
-            0 => if let Some(frequency) = read_frequency(text) {
-                self.frequency = frequency;
-            },
-            1 => if let Some(modulation) = read_modulation(text) {
-                self.modulation = modulation;
-            },
-            2 => if let Some(tone) = read_small(text, 0, HIGHEST_TONE) {
-                self.tone = tone;
-            },
-            3 => if let Some(tone_lock) = read_flag(text) {
-                self.tone_lock = tone_lock;
-            },
-            4 => if let Some(lockout) = read_flag(text) {
-                self.lockout = lockout;
-            },
-            5 => if let Some(priority) = read_flag(text) {
-                self.priority = priority;
-            },
-            6 => if let Some(attenuation) = read_flag(text) {
-                self.attenuation = attenuation;
-            },
-            7 => if let Some(alert) = read_small(text, 0, HIGHEST_ALERT) {
-                self.alert = alert;
-            },
-            8 => if let Some(alert_level) = read_small(text, 0, HIGHEST_ALERT_LEVEL) {
-                self.alert_level = alert_level;
-            },
-            9 => if let Some(recorded) = read_flag(text) {
-                self.recorded = recorded;
-            },
-            10 => if let Some(audio_type) = read_small(text, 0, HIGHEST_AUDIO_TYPE) {
-                self.audio_type = audio_type;
-            },
+            0 => self.frequency = read_frequency(text).unwrap_or(self.frequency),
+            1 => self.modulation = read_modulation(text).unwrap_or(self.modulation),
+            2 => self.tone = read_small(text, 0, HIGHEST_TONE).unwrap_or(self.tone),
+            3 => self.tone_lock = read_flag(text).unwrap_or(self.tone_lock),
+            4 => self.lockout = read_flag(text).unwrap_or(self.lockout),
+            5 => self.priority = read_flag(text).unwrap_or(self.priority),
+            6 => self.attenuation = read_flag(text).unwrap_or(self.attenuation),
+            7 => self.alert = read_small(text, 0, HIGHEST_ALERT).unwrap_or(self.alert),
+            8 => self.alert_level = read_small(text, 0, HIGHEST_ALERT_LEVEL).unwrap_or(
+                self.alert_level,
+            ),
+            9 => self.recorded = read_flag(text).unwrap_or(self.recorded),
+            10 => self.audio_type = read_small(text, 0, HIGHEST_AUDIO_TYPE).unwrap_or(
+                self.audio_type,
+            ),
             _ => {}
         }
     }

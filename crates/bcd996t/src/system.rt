@@ -63,18 +63,10 @@ impl Settings for SystemSettings {
 
     fn write(&mut self, field: usize, text: &[u8]) {
         match field {
-            0 => if let Some(key) = read_quick_key(text, HIGHEST_KEY) {
-                self.key = key;
-            },
-            1 => if let Some(hold) = read_small(text, 0, LONGEST_HOLD) {
-                self.hold = hold;
-            },
-            2 => if let Some(lockout) = read_flag(text) {
-                self.lockout = lockout;
-            },
-            3 => if let Some(delay) = read_small(text, 0, LONGEST_DELAY) {
-                self.delay = delay;
-            },
+            0 => self.key = read_quick_key(text, HIGHEST_KEY).unwrap_or(self.key),
+            1 => self.hold = read_small(text, 0, LONGEST_HOLD).unwrap_or(self.hold),
+            2 => self.lockout = read_flag(text).unwrap_or(self.lockout),
+            3 => self.delay = read_small(text, 0, LONGEST_DELAY).unwrap_or(self.delay),
             _ => {}
         }
     }

@@ -78,21 +78,15 @@ impl Settings for TalkgroupSettings {
             0 => if let Some(id) = read_between(text, 0, HIGHEST_ID) {
                 self.id = id as u16;
             },
-            1 => if let Some(lockout) = read_flag(text) {
-                self.lockout = lockout;
-            },
-            3 => if let Some(alert) = read_small(text, 0, HIGHEST_ALERT) {
-                self.alert = alert;
-            },
-            4 => if let Some(alert_level) = read_small(text, 0, HIGHEST_ALERT_LEVEL) {
-                self.alert_level = alert_level;
-            },
-            5 => if let Some(recorded) = read_flag(text) {
-                self.recorded = recorded;
-            },
-            6 => if let Some(audio_type) = read_small(text, 0, HIGHEST_AUDIO_TYPE) {
-                self.audio_type = audio_type;
-            },
+            1 => self.lockout = read_flag(text).unwrap_or(self.lockout),
+            3 => self.alert = read_small(text, 0, HIGHEST_ALERT).unwrap_or(self.alert),
+            4 => self.alert_level = read_small(text, 0, HIGHEST_ALERT_LEVEL).unwrap_or(
+                self.alert_level,
+            ),
+            5 => self.recorded = read_flag(text).unwrap_or(self.recorded),
+            6 => self.audio_type = read_small(text, 0, HIGHEST_AUDIO_TYPE).unwrap_or(
+                self.audio_type,
+            ),
             _ => {}
         }
     }

@@ -180,7 +180,7 @@ const MEMBERS: [Case; 91] = [
     (Kind::TrunkFrequency, 3, b"0", b""),
 ];
 
-// A refused text leaves what the field showed before.
+// A refused text leaves what the field showed before. Each make's crate has this helper, since a crate's tests cannot use those of another.
 fn holds<M: Make>(case: &Case) -> bool {
     let (kind, field, text, shown) = *case;
     let mut record = M::fresh(kind, 0);

@@ -47,12 +47,8 @@ impl Settings for GroupSettings {
 
     fn write(&mut self, field: usize, text: &[u8]) {
         match field {
-            0 => if let Some(key) = read_quick_key(text, HIGHEST_KEY) {
-                self.key = key;
-            },
-            1 => if let Some(lockout) = read_flag(text) {
-                self.lockout = lockout;
-            },
+            0 => self.key = read_quick_key(text, HIGHEST_KEY).unwrap_or(self.key),
+            1 => self.lockout = read_flag(text).unwrap_or(self.lockout),
             _ => {}
         }
     }

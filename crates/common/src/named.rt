@@ -16,7 +16,7 @@ pub trait HasName: Settings {
     fn starting_name() -> StartingName
         ensures value { result ≡ start };
 
-    // There are few fields, and the first part is at most all of them.
+    // There are few fields, and with the name one more.
     ghost few: { nat_le (length (fields_from Self.scheme.rows)) 19 ≡ true };
 
     ghost fronted: { nat_le Self.scheme.first 19 ≡ true };

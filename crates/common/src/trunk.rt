@@ -51,15 +51,11 @@ impl Settings for TrunkSettings {
 
     fn write(&mut self, field: usize, text: &[u8]) {
         match field {
-            0 => if let Some(steps) = read_frequency(text) {
-                self.frequency = steps;
-            },
-            1 => if let Some(number) = read_small(text, LOWEST_NUMBER, HIGHEST_NUMBER) {
-                self.number = number;
-            },
-            2 => if let Some(lockout) = read_flag(text) {
-                self.lockout = lockout;
-            },
+            0 => self.frequency = read_frequency(text).unwrap_or(self.frequency),
+            1 => self.number = read_small(text, LOWEST_NUMBER, HIGHEST_NUMBER).unwrap_or(
+                self.number,
+            ),
+            2 => self.lockout = read_flag(text).unwrap_or(self.lockout),
             _ => {}
         }
     }
