@@ -12,8 +12,8 @@ use make::Make;
 // The most blocks that a memory of this make has.
 const BLOCK_MAXIMUM: usize = 45000;
 
-// How many system types there are.
-const TYPE_COUNT: u8 = 5;
+// The names of the system types, the conventional one first.
+static TYPE_NAMES: [&[u8]; 5] = [b"CNV", b"MOT", b"EDC", b"EDS", b"LTR"];
 
 // What the BC346XT has of its own.
 pub struct Bc346xtLayout;
@@ -47,18 +47,7 @@ impl Layout for Bc346xtLayout {
         BLOCK_MAXIMUM
     }
 
-    fn type_count() -> u8 {
-        TYPE_COUNT
-    }
-
-    fn type_name<'a>(system_type: u8) -> &'a [u8] {
-        match system_type {
-            0 => b"CNV",
-            1 => b"MOT",
-            2 => b"EDC",
-            3 => b"EDS",
-            4 => b"LTR",
-            _ => b"",
-        }
+    fn type_names() -> &'static [&'static [u8]] {
+        &TYPE_NAMES
     }
 }

@@ -12,8 +12,8 @@ use make::Make;
 // The most blocks that a memory of this make has.
 const BLOCK_MAXIMUM: usize = 15000;
 
-// How many system types there are.
-const TYPE_COUNT: u8 = 6;
+// The names of the system types, the conventional one first.
+static TYPE_NAMES: [&[u8]; 6] = [b"CNV", b"MOT1", b"MOT2", b"EDC", b"EDS", b"LTR"];
 
 // What the BCD996T has of its own.
 pub struct Bcd996tLayout;
@@ -47,19 +47,7 @@ impl Layout for Bcd996tLayout {
         BLOCK_MAXIMUM
     }
 
-    fn type_count() -> u8 {
-        TYPE_COUNT
-    }
-
-    fn type_name<'a>(system_type: u8) -> &'a [u8] {
-        match system_type {
-            0 => b"CNV",
-            1 => b"MOT1",
-            2 => b"MOT2",
-            3 => b"EDC",
-            4 => b"EDS",
-            5 => b"LTR",
-            _ => b"",
-        }
+    fn type_names() -> &'static [&'static [u8]] {
+        &TYPE_NAMES
     }
 }

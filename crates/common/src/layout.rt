@@ -1,5 +1,5 @@
 // A make, from what it has of its own.
-ghost use Rattle.std.specs.Prelude.{◌≡◌, ℕ, true, List, [], length, slice_index_or};
+ghost use Rattle.std.specs.Prelude.{◌≡◌, ◌≤◌, ℕ, true, List, length, map};
 ghost use Rattle.sorts.specs.Plans.{plan_fine, row_at, sort_at, spec_of};
 ghost use Rattle.sorts.proofs.PlanLaws.{plan_keeps};
 ghost use Rattle.common.specs.Records.{schemes, plan_of, kind_of, type_of, texts_of, made_record, written_record};
@@ -32,13 +32,10 @@ pub trait Layout {
     fn block_maximum() -> usize
         ensures value { result ≡ most };
 
-    // How many system types there are; they are numbered from 0, and 0 is the conventional one.
-    fn type_count() -> u8
-        ensures value { result ≡ length types };
-
-    // A type's name; no bytes for a number past the last type.
-    fn type_name<'a>(system_type: u8) -> &'a [u8]
-        ensures value { result.now ≡ slice_index_or types system_type [] };
+    // The names of the system types; they are numbered from 0, and 0 is the conventional one.
+    fn type_names() -> &'static [&'static [u8]]
+        ensures value { map (λ name. name.now) result.now ≡ types }
+        ensures few { length result.now ≤ 12 };
 
     // The table passes its test.
     ghost fine: { plan_fine (plan_of most types (schemes Self.System.scheme Self.Channel.scheme Self.Talkgroup.scheme)) ≡ true };
@@ -82,17 +79,17 @@ impl<L: Layout> Make for MakeOf<L> {
 
     ghost keeps = { plan_keeps (plan_of L.most L.types (schemes L.System.scheme L.Channel.scheme L.Talkgroup.scheme)) L.fine };
 
-    ghost counted = { RecordLaws.counted L.most L.types (schemes L.System.scheme L.Channel.scheme L.Talkgroup.scheme) (record { system = L.System.keeps; channel = L.Channel.keeps; talkgroup = L.Talkgroup.keeps }) };
+    ghost counted = { RecordLaws.counted L.most L.types (RecordLaws.keep L.System.keeps L.Channel.keeps L.Talkgroup.keeps) };
 
     ghost madekind = { RecordLaws.made_kind (schemes L.System.scheme L.Channel.scheme L.Talkgroup.scheme) };
 
     ghost madetype = { RecordLaws.made_type (schemes L.System.scheme L.Channel.scheme L.Talkgroup.scheme) };
 
-    ghost madetexts = { RecordLaws.made_texts L.most L.types (schemes L.System.scheme L.Channel.scheme L.Talkgroup.scheme) (record { system = L.System.keeps; channel = L.Channel.keeps; talkgroup = L.Talkgroup.keeps }) };
+    ghost madetexts = { RecordLaws.made_texts L.most L.types (RecordLaws.keep L.System.keeps L.Channel.keeps L.Talkgroup.keeps) };
 
-    ghost accepted = { RecordLaws.accepted L.most L.types (schemes L.System.scheme L.Channel.scheme L.Talkgroup.scheme) (record { system = L.System.keeps; channel = L.Channel.keeps; talkgroup = L.Talkgroup.keeps }) };
+    ghost accepted = { RecordLaws.accepted L.most L.types (RecordLaws.keep L.System.keeps L.Channel.keeps L.Talkgroup.keeps) };
 
-    ghost refused = { RecordLaws.refused L.most L.types (schemes L.System.scheme L.Channel.scheme L.Talkgroup.scheme) (record { system = L.System.keeps; channel = L.Channel.keeps; talkgroup = L.Talkgroup.keeps }) };
+    ghost refused = { RecordLaws.refused L.most L.types (RecordLaws.keep L.System.keeps L.Channel.keeps L.Talkgroup.keeps) };
 
     ghost writtenkind = { RecordLaws.written_kind (schemes L.System.scheme L.Channel.scheme L.Talkgroup.scheme) };
 
@@ -103,11 +100,14 @@ impl<L: Layout> Make for MakeOf<L> {
     }
 
     fn type_count() -> u8 {
-        L::type_count()
+        L::type_names().len() as u8
     }
 
     fn type_name<'a>(system_type: u8) -> &'a [u8] {
-        L::type_name(system_type)
+        L::type_names()
+            .get(system_type as usize)
+            .copied()
+            .unwrap_or(b"")
     }
 
     fn field_count(kind: Kind) -> usize {
