@@ -1,19 +1,18 @@
 // The settings of a channel.
-ghost use Rattle.std.specs.Prelude.{◌≡◌, ◌+◌, ◌≤◌, [], ◌∷◌, length, get_or, slice_index_or};
-ghost use Rattle.text.specs.Buffer.{put};
-ghost use Rattle.sorts.specs.declared.sort.StartingName.TheVariants.{Channel};
-ghost use Rattle.sorts.specs.Plans.{reserve_row};
-ghost use Rattle.sorts.specs.Settings.{with_name};
-ghost use Rattle.bc346xt.specs.Channel.{channel_rows, new_channel, channel_texts, written_channel};
-
+use common::{HasName, Settings};
 use sorts::{
-    FieldRow, Modulation, Sort, StartingName, Tag, put_modulation, put_tag, read_flag,
+    FieldRow, Modulation, Sort, StartingName, Tag, put_flag, put_modulation, put_tag, read_flag,
     read_frequency, read_modulation, read_offset, read_small, read_tag,
 };
 use text::buffer::put_bytes;
 use text::frequency::Frequency;
 use text::number::put_number;
 use text::signed::put_signed;
+
+const FIELD_COUNT: usize = 16;
+
+// The links in a reply stand behind these fields.
+const FIRST_PART: usize = 9;
 
 const HIGHEST_TONE: u8 = 231;
 
@@ -28,10 +27,10 @@ pub struct ChannelSettings {
     pub frequency: u32,
     pub modulation: Modulation,
     pub tone: u8,
-    pub tone_lock: u8,
-    pub lockout: u8,
-    pub priority: u8,
-    pub attenuation: u8,
+    pub tone_lock: bool,
+    pub lockout: bool,
+    pub priority: bool,
+    pub attenuation: bool,
     pub alert: u8,
     pub alert_level: u8,
     pub tag: Tag,
@@ -39,119 +38,111 @@ pub struct ChannelSettings {
     pub offset: i8,
 }
 
-impl ChannelSettings {
-    pub(crate) fn new() -> ChannelSettings
-        ensures value { result ≡ new_channel }
-    {
+impl Settings for ChannelSettings {
+    ghost use Rattle.bc346xt.specs.Channel.{channel_scheme};
+    ghost use Rattle.bc346xt.specs.Keeps.{channel_keeps};
+
+    ghost scheme = { channel_scheme };
+
+    ghost keeps = { channel_keeps };
+
+    fn new() -> ChannelSettings {
         ChannelSettings {
             frequency: 0,
             modulation: Modulation::Auto,
             tone: 0,
-            tone_lock: 0,
-            lockout: 0,
-            priority: 0,
-            attenuation: 0,
+            tone_lock: false,
+            lockout: false,
+            priority: false,
+            attenuation: false,
             alert: 0,
             alert_level: 0,
-            tag: Tag::Untagged,
+            tag: None,
             pattern: 0,
             offset: 0,
         }
     }
 
-    // The row of a field.
-    pub(crate) fn row(field: usize) -> FieldRow
-        ensures name { result.name.now ≡ (get_or (with_name Channel channel_rows) field reserve_row).name }
-        ensures sort { result.sort ≡ (get_or (with_name Channel channel_rows) field reserve_row).sort }
-    {
+    fn field_count() -> usize {
+        FIELD_COUNT
+    }
+
+    fn first_part() -> usize {
+        FIRST_PART
+    }
+
+    fn row(field: usize) -> FieldRow {
         match field {
-            0 => FieldRow::new(b"NAME", Sort::Name(StartingName::Channel)),
-            1 => FieldRow::new(b"FRQ", Sort::Frequency),
-            2 => FieldRow::new(b"MOD", Sort::Modulation),
-            3 => FieldRow::small(b"CTCSS/DCS", 0, HIGHEST_TONE),
-            4 => FieldRow::flag(b"TLOCK"),
-            5 => FieldRow::flag(b"LOUT"),
-            6 => FieldRow::flag(b"PRI"),
-            7 => FieldRow::flag(b"ATT"),
-            8 => FieldRow::small(b"ALT", 0, HIGHEST_ALERT),
-            9 => FieldRow::small(b"ALTL", 0, HIGHEST_ALERT_LEVEL),
+            0 => FieldRow::new(b"FRQ", Sort::Frequency),
+            1 => FieldRow::new(b"MOD", Sort::Modulation),
+            2 => FieldRow::small(b"CTCSS/DCS", 0, HIGHEST_TONE),
+            3 => FieldRow::flag(b"TLOCK"),
+            4 => FieldRow::flag(b"LOUT"),
+            5 => FieldRow::flag(b"PRI"),
+            6 => FieldRow::flag(b"ATT"),
+            7 => FieldRow::small(b"ALT", 0, HIGHEST_ALERT),
+            8 => FieldRow::small(b"ALTL", 0, HIGHEST_ALERT_LEVEL),
+            9 => FieldRow::reserve(),
             10 => FieldRow::reserve(),
             11 => FieldRow::reserve(),
-            12 => FieldRow::reserve(),
-            13 => FieldRow::new(b"NUMBER_TAG", Sort::Tag),
-            14 => FieldRow::reserve(),
-            15 => FieldRow::small(b"ALT_PATTERN", 0, HIGHEST_PATTERN),
-            16 => FieldRow::new(b"VOL_OFFSET", Sort::Offset),
+            12 => FieldRow::new(b"NUMBER_TAG", Sort::Tag),
+            13 => FieldRow::reserve(),
+            14 => FieldRow::small(b"ALT_PATTERN", 0, HIGHEST_PATTERN),
+            15 => FieldRow::new(b"VOL_OFFSET", Sort::Offset),
             _ => FieldRow::reserve(),
         }
     }
 
-    // Writes a text into a field, if it is a setting and the text is legal there.
-    pub(crate) fn write(&mut self, field: usize, text: &[u8])
-        ensures after { self.new ≡ written_channel self.old field text.now }
-    {
+    fn write(&mut self, field: usize, text: &[u8]) {
         match field {
-            1 => if let Some(steps) = read_frequency(text) {
-                self.frequency = steps;
-            },
-            2 => if let Some(modulation) = read_modulation(text) {
-                self.modulation = modulation;
-            },
-            3 => if let Some(n) = read_small(text, 0, HIGHEST_TONE) {
-                self.tone = n;
-            },
-            4 => if let Some(n) = read_flag(text) {
-                self.tone_lock = n;
-            },
-            5 => if let Some(n) = read_flag(text) {
-                self.lockout = n;
-            },
-            6 => if let Some(n) = read_flag(text) {
-                self.priority = n;
-            },
-            7 => if let Some(n) = read_flag(text) {
-                self.attenuation = n;
-            },
-            8 => if let Some(n) = read_small(text, 0, HIGHEST_ALERT) {
-                self.alert = n;
-            },
-            9 => if let Some(n) = read_small(text, 0, HIGHEST_ALERT_LEVEL) {
-                self.alert_level = n;
-            },
-            13 => if let Some(tag) = read_tag(text) {
-                self.tag = tag;
-            },
-            15 => if let Some(n) = read_small(text, 0, HIGHEST_PATTERN) {
-                self.pattern = n;
-            },
-            16 => if let Some(n) = read_offset(text) {
-                self.offset = n;
-            },
+            0 => self.frequency = read_frequency(text).unwrap_or(self.frequency),
+            1 => self.modulation = read_modulation(text).unwrap_or(self.modulation),
+            2 => self.tone = read_small(text, 0, HIGHEST_TONE).unwrap_or(self.tone),
+            3 => self.tone_lock = read_flag(text).unwrap_or(self.tone_lock),
+            4 => self.lockout = read_flag(text).unwrap_or(self.lockout),
+            5 => self.priority = read_flag(text).unwrap_or(self.priority),
+            6 => self.attenuation = read_flag(text).unwrap_or(self.attenuation),
+            7 => self.alert = read_small(text, 0, HIGHEST_ALERT).unwrap_or(self.alert),
+            8 => self.alert_level = read_small(text, 0, HIGHEST_ALERT_LEVEL).unwrap_or(
+                self.alert_level,
+            ),
+            12 => self.tag = read_tag(text).unwrap_or(self.tag),
+            14 => self.pattern = read_small(text, 0, HIGHEST_PATTERN).unwrap_or(self.pattern),
+            15 => self.offset = read_offset(text).unwrap_or(self.offset),
             _ => {}
         }
     }
 
-    // Puts the text that a field shows.
-    pub(crate) fn show(&self, field: usize, out: &mut [u8], at: usize) -> usize
-        requires room { at + 24 ≤ length out.old }
-        ensures bound { result ≤ at + 24 }
-        ensures end { result ≡ at + length (slice_index_or ([] ∷ channel_texts self.now) field []) }
-        ensures buffer { out.new ≡ put out.old at (slice_index_or ([] ∷ channel_texts self.now) field []) }
-    {
+    fn show(&self, field: usize, out: &mut [u8], at: usize) -> usize {
         match field {
-            1 => Frequency::from_row(self.frequency).put(out, at),
-            2 => put_modulation(out, at, self.modulation),
-            3 => put_number(out, at, self.tone as u32),
-            4 => put_number(out, at, self.tone_lock as u32),
-            5 => put_number(out, at, self.lockout as u32),
-            6 => put_number(out, at, self.priority as u32),
-            7 => put_number(out, at, self.attenuation as u32),
-            8 => put_number(out, at, self.alert as u32),
-            9 => put_number(out, at, self.alert_level as u32),
-            13 => put_tag(out, at, self.tag),
-            15 => put_number(out, at, self.pattern as u32),
-            16 => put_signed(out, at, self.offset as i32),
+            0 => Frequency::from_row(self.frequency).put(out, at),
+            1 => put_modulation(out, at, self.modulation),
+            2 => put_number(out, at, self.tone as u32),
+            3 => put_flag(out, at, self.tone_lock),
+            4 => put_flag(out, at, self.lockout),
+            5 => put_flag(out, at, self.priority),
+            6 => put_flag(out, at, self.attenuation),
+            7 => put_number(out, at, self.alert as u32),
+            8 => put_number(out, at, self.alert_level as u32),
+            12 => put_tag(out, at, self.tag),
+            14 => put_number(out, at, self.pattern as u32),
+            15 => put_signed(out, at, self.offset as i32),
             _ => put_bytes(out, at, b""),
         }
+    }
+}
+
+impl HasName for ChannelSettings {
+    ghost use Rattle.std.specs.Prelude.{refl};
+    ghost use Rattle.sorts.specs.declared.sort.StartingName.TheVariants.{Channel};
+
+    ghost start = { Channel };
+
+    ghost few = { refl };
+
+    ghost fronted = { refl };
+
+    fn starting_name() -> StartingName {
+        StartingName::Channel
     }
 }

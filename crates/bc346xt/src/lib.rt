@@ -3,14 +3,12 @@
 
 mod channel;
 mod keeping;
-mod record;
 mod system;
 mod talkgroup;
 #[cfg(test)]
 mod tests;
 
 pub use channel::ChannelSettings;
-pub use keeping::{Bc346xt, keeps_rules};
-pub use record::{Record, Settings};
+pub use keeping::{Bc346xt, Bc346xtLayout, Record, keeps_rules};
 pub use system::SystemSettings;
 pub use talkgroup::TalkgroupSettings;

@@ -1,18 +1,17 @@
 // The settings of a talkgroup.
-ghost use Rattle.std.specs.Prelude.{◌≡◌, ◌+◌, ◌≤◌, [], ◌∷◌, length, get_or, slice_index_or};
-ghost use Rattle.text.specs.Buffer.{put};
-ghost use Rattle.sorts.specs.declared.sort.StartingName.TheVariants.{Talkgroup};
-ghost use Rattle.sorts.specs.Plans.{reserve_row};
-ghost use Rattle.sorts.specs.Settings.{with_name};
-ghost use Rattle.bc346xt.specs.Talkgroup.{talkgroup_rows, new_talkgroup, talkgroup_texts, written_talkgroup};
-
+use common::{HasName, Settings};
 use sorts::{
-    FieldRow, Sort, StartingName, Tag, put_tag, read_between, read_flag, read_offset, read_small,
-    read_tag,
+    FieldRow, Sort, StartingName, Tag, put_flag, put_tag, read_between, read_flag, read_offset,
+    read_small, read_tag,
 };
 use text::buffer::put_bytes;
 use text::number::put_number;
 use text::signed::put_signed;
+
+const FIELD_COUNT: usize = 11;
+
+// The links in a reply stand behind these fields.
+const FIRST_PART: usize = 5;
 
 const HIGHEST_ID: u32 = 65535;
 
@@ -25,8 +24,8 @@ const HIGHEST_PATTERN: u8 = 3;
 #[derive(Clone, Copy)]
 pub struct TalkgroupSettings {
     pub id: u16,
-    pub lockout: u8,
-    pub priority: u8,
+    pub lockout: bool,
+    pub priority: bool,
     pub alert: u8,
     pub alert_level: u8,
     pub tag: Tag,
@@ -34,100 +33,102 @@ pub struct TalkgroupSettings {
     pub offset: i8,
 }
 
-impl TalkgroupSettings {
-    pub(crate) fn new() -> TalkgroupSettings
-        ensures value { result ≡ new_talkgroup }
-    {
+impl Settings for TalkgroupSettings {
+    ghost use Rattle.bc346xt.specs.Talkgroup.{talkgroup_scheme};
+    ghost use Rattle.bc346xt.specs.Keeps.{talkgroup_keeps};
+
+    ghost scheme = { talkgroup_scheme };
+
+    ghost keeps = { talkgroup_keeps };
+
+    fn new() -> TalkgroupSettings {
         TalkgroupSettings {
             id: 0,
-            lockout: 0,
-            priority: 0,
+            lockout: false,
+            priority: false,
             alert: 0,
             alert_level: 0,
-            tag: Tag::Untagged,
+            tag: None,
             pattern: 0,
             offset: 0,
         }
     }
 
-    // The row of a field.
-    pub(crate) fn row(field: usize) -> FieldRow
-        ensures name { result.name.now ≡ (get_or (with_name Talkgroup talkgroup_rows) field reserve_row).name }
-        ensures sort { result.sort ≡ (get_or (with_name Talkgroup talkgroup_rows) field reserve_row).sort }
-    {
+    fn field_count() -> usize {
+        FIELD_COUNT
+    }
+
+    fn first_part() -> usize {
+        FIRST_PART
+    }
+
+    fn row(field: usize) -> FieldRow {
         match field {
-            0 => FieldRow::new(b"NAME", Sort::Name(StartingName::Talkgroup)),
-            1 => FieldRow::new(
+            0 => FieldRow::new(
                 b"TGID",
                 Sort::Number {
                     low: 0,
                     high: HIGHEST_ID,
                 },
             ),
-            2 => FieldRow::flag(b"LOUT"),
-            3 => FieldRow::flag(b"PRI"),
-            4 => FieldRow::small(b"ALT", 0, HIGHEST_ALERT),
-            5 => FieldRow::small(b"ALTL", 0, HIGHEST_ALERT_LEVEL),
+            1 => FieldRow::flag(b"LOUT"),
+            2 => FieldRow::flag(b"PRI"),
+            3 => FieldRow::small(b"ALT", 0, HIGHEST_ALERT),
+            4 => FieldRow::small(b"ALTL", 0, HIGHEST_ALERT_LEVEL),
+            5 => FieldRow::reserve(),
             6 => FieldRow::reserve(),
-            7 => FieldRow::reserve(),
-            8 => FieldRow::new(b"NUMBER_TAG", Sort::Tag),
-            9 => FieldRow::reserve(),
-            10 => FieldRow::small(b"ALT_PATTERN", 0, HIGHEST_PATTERN),
-            11 => FieldRow::new(b"VOL_OFFSET", Sort::Offset),
+            7 => FieldRow::new(b"NUMBER_TAG", Sort::Tag),
+            8 => FieldRow::reserve(),
+            9 => FieldRow::small(b"ALT_PATTERN", 0, HIGHEST_PATTERN),
+            10 => FieldRow::new(b"VOL_OFFSET", Sort::Offset),
             _ => FieldRow::reserve(),
         }
     }
 
-    // Writes a text into a field, if it is a setting and the text is legal there.
-    pub(crate) fn write(&mut self, field: usize, text: &[u8])
-        ensures after { self.new ≡ written_talkgroup self.old field text.now }
-    {
+    fn write(&mut self, field: usize, text: &[u8]) {
         match field {
-            1 => if let Some(n) = read_between(text, 0, HIGHEST_ID) {
-                self.id = n as u16;
+            0 => if let Some(id) = read_between(text, 0, HIGHEST_ID) {
+                self.id = id as u16;
             },
-            2 => if let Some(n) = read_flag(text) {
-                self.lockout = n;
-            },
-            3 => if let Some(n) = read_flag(text) {
-                self.priority = n;
-            },
-            4 => if let Some(n) = read_small(text, 0, HIGHEST_ALERT) {
-                self.alert = n;
-            },
-            5 => if let Some(n) = read_small(text, 0, HIGHEST_ALERT_LEVEL) {
-                self.alert_level = n;
-            },
-            8 => if let Some(tag) = read_tag(text) {
-                self.tag = tag;
-            },
-            10 => if let Some(n) = read_small(text, 0, HIGHEST_PATTERN) {
-                self.pattern = n;
-            },
-            11 => if let Some(n) = read_offset(text) {
-                self.offset = n;
-            },
+            1 => self.lockout = read_flag(text).unwrap_or(self.lockout),
+            2 => self.priority = read_flag(text).unwrap_or(self.priority),
+            3 => self.alert = read_small(text, 0, HIGHEST_ALERT).unwrap_or(self.alert),
+            4 => self.alert_level = read_small(text, 0, HIGHEST_ALERT_LEVEL).unwrap_or(
+                self.alert_level,
+            ),
+            7 => self.tag = read_tag(text).unwrap_or(self.tag),
+            9 => self.pattern = read_small(text, 0, HIGHEST_PATTERN).unwrap_or(self.pattern),
+            10 => self.offset = read_offset(text).unwrap_or(self.offset),
             _ => {}
         }
     }
 
-    // Puts the text that a field shows.
-    pub(crate) fn show(&self, field: usize, out: &mut [u8], at: usize) -> usize
-        requires room { at + 24 ≤ length out.old }
-        ensures bound { result ≤ at + 24 }
-        ensures end { result ≡ at + length (slice_index_or ([] ∷ talkgroup_texts self.now) field []) }
-        ensures buffer { out.new ≡ put out.old at (slice_index_or ([] ∷ talkgroup_texts self.now) field []) }
-    {
+    fn show(&self, field: usize, out: &mut [u8], at: usize) -> usize {
         match field {
-            1 => put_number(out, at, self.id as u32),
-            2 => put_number(out, at, self.lockout as u32),
-            3 => put_number(out, at, self.priority as u32),
-            4 => put_number(out, at, self.alert as u32),
-            5 => put_number(out, at, self.alert_level as u32),
-            8 => put_tag(out, at, self.tag),
-            10 => put_number(out, at, self.pattern as u32),
-            11 => put_signed(out, at, self.offset as i32),
+            0 => put_number(out, at, self.id as u32),
+            1 => put_flag(out, at, self.lockout),
+            2 => put_flag(out, at, self.priority),
+            3 => put_number(out, at, self.alert as u32),
+            4 => put_number(out, at, self.alert_level as u32),
+            7 => put_tag(out, at, self.tag),
+            9 => put_number(out, at, self.pattern as u32),
+            10 => put_signed(out, at, self.offset as i32),
             _ => put_bytes(out, at, b""),
         }
+    }
+}
+
+impl HasName for TalkgroupSettings {
+    ghost use Rattle.std.specs.Prelude.{refl};
+    ghost use Rattle.sorts.specs.declared.sort.StartingName.TheVariants.{Talkgroup};
+
+    ghost start = { Talkgroup };
+
+    ghost few = { refl };
+
+    ghost fronted = { refl };
+
+    fn starting_name() -> StartingName {
+        StartingName::Talkgroup
     }
 }

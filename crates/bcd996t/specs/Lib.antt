@@ -1,7 +1,6 @@
--- The make BCD996T: its settings, its table of fields, and its records. Assumes nothing.
+-- The make BCD996T: its settings and its table of fields. Assumes nothing.
 pub mod System
 pub mod Channel
 pub mod Talkgroup
+pub mod Keeps
 pub mod Table
-pub mod Records
-pub mod RecordLaws

@@ -1,13 +1,14 @@
--- The settings of a talkgroup: their rows, texts, and what a text changes. Assumes nothing.
-use Rattle.std.specs.Prelude.{ℕ, List, [], ◌∷◌, codes, decimal}
+-- The settings of a talkgroup behind its name: their rows, texts, and what a text changes. Assumes nothing.
+use Rattle.std.specs.Prelude.{ℕ, List, [], ◌∷◌, false, codes, decimal}
 use Rattle.text.specs.Number.{value}
 use Rattle.sorts.specs.declared.sort.Sort.TheVariants.{Number, Reserve}
 use Rattle.sorts.specs.Sorts.{flag}
+use Rattle.sorts.specs.Values.{flag_of, flag_text}
 use Rattle.sorts.specs.Plans.{Row, row}
-use Rattle.sorts.specs.Settings.{past_name, written_in}
+use Rattle.common.specs.Scheme.{Scheme, listed}
 use Rattle.bcd996t.specs.declared.talkgroup.TalkgroupSettings.{TalkgroupSettings}
 
--- the name and the sort of each field behind the name
+-- the name and the sort of each field
 abbrev pub talkgroup_rows : List Row
 talkgroup_rows =
     row (codes "TGID") (Number 0 65535) ∷
@@ -18,30 +19,26 @@ talkgroup_rows =
     row (codes "RECORD") flag ∷
     row (codes "AUDIO_TYPE") (Number 0 2) ∷ []
 
--- settings from their values
-abbrev pub talkgroup : ℕ → ℕ → ℕ → ℕ → ℕ → ℕ → TalkgroupSettings
-talkgroup id lockout alert alert_level recorded audio_type = record { id = id; lockout = lockout; alert = alert; alert_level = alert_level; recorded = recorded; audio_type = audio_type }
-
 -- the settings of a new record
 abbrev pub new_talkgroup : TalkgroupSettings
-new_talkgroup = talkgroup 0 0 0 0 0 0
+new_talkgroup = record { id = 0; lockout = false; alert = 0; alert_level = 0; recorded = false; audio_type = 0 }
 
--- the text of each field behind the name
+-- the text of each field
 abbrev pub talkgroup_texts : TalkgroupSettings → List (List ℕ)
 talkgroup_texts s =
-    decimal s.id ∷ decimal s.lockout ∷ [] ∷ decimal s.alert ∷ decimal s.alert_level ∷ decimal s.recorded ∷ decimal s.audio_type ∷ []
+    decimal s.id ∷ flag_text s.lockout ∷ [] ∷ decimal s.alert ∷ decimal s.alert_level ∷ flag_text s.recorded ∷ decimal s.audio_type ∷ []
 
--- the settings after a text for each field behind the name
+-- the settings after a text for each field
 abbrev pub talkgroup_puts : TalkgroupSettings → List ℕ → List TalkgroupSettings
 talkgroup_puts s t =
-    talkgroup (value t) s.lockout s.alert s.alert_level s.recorded s.audio_type ∷
-    talkgroup s.id (value t) s.alert s.alert_level s.recorded s.audio_type ∷
+    record s { id = value t } ∷
+    record s { lockout = flag_of t } ∷
     s ∷
-    talkgroup s.id s.lockout (value t) s.alert_level s.recorded s.audio_type ∷
-    talkgroup s.id s.lockout s.alert (value t) s.recorded s.audio_type ∷
-    talkgroup s.id s.lockout s.alert s.alert_level (value t) s.audio_type ∷
-    talkgroup s.id s.lockout s.alert s.alert_level s.recorded (value t) ∷ []
+    record s { alert = value t } ∷
+    record s { alert_level = value t } ∷
+    record s { recorded = flag_of t } ∷
+    record s { audio_type = value t } ∷ []
 
--- the settings after a text for a field, by its number in the record
-abbrev pub written_talkgroup : TalkgroupSettings → ℕ → List ℕ → TalkgroupSettings
-written_talkgroup s f t = written_in (past_name talkgroup_rows) s (s ∷ talkgroup_puts s t) f t
+-- what the settings of a talkgroup hold, show and become
+abbrev pub talkgroup_scheme : Scheme TalkgroupSettings
+talkgroup_scheme = listed talkgroup_rows 5 new_talkgroup talkgroup_texts talkgroup_puts

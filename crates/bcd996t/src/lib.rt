@@ -3,14 +3,12 @@
 
 mod channel;
 mod keeping;
-mod record;
 mod system;
 mod talkgroup;
 #[cfg(test)]
 mod tests;
 
 pub use channel::ChannelSettings;
-pub use keeping::{Bcd996t, keeps_rules};
-pub use record::{Record, Settings};
+pub use keeping::{Bcd996t, Bcd996tLayout, Record, keeps_rules};
 pub use system::SystemSettings;
 pub use talkgroup::TalkgroupSettings;

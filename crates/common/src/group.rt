@@ -1,72 +1,78 @@
 // The settings of a group of channels or of talkgroups.
-ghost use Rattle.std.specs.Prelude.{◌≡◌, ◌+◌, ◌≤◌, [], ◌∷◌, length, get_or, slice_index_or};
-ghost use Rattle.text.specs.Buffer.{put};
-ghost use Rattle.sorts.specs.declared.sort.StartingName.TheVariants.{Group};
-ghost use Rattle.sorts.specs.Plans.{reserve_row};
-ghost use Rattle.sorts.specs.Settings.{with_name};
-ghost use Rattle.common.specs.Group.{group_rows, new_group, group_texts, written_group};
-
-use sorts::{FieldRow, QuickKey, Sort, StartingName, put_quick_key, read_flag, read_quick_key};
+use crate::named::HasName;
+use crate::settings::Settings;
+use sorts::{
+    FieldRow, QuickKey, Sort, StartingName, put_flag, put_quick_key, read_flag, read_quick_key,
+};
 use text::buffer::put_bytes;
-use text::number::put_number;
 
 const HIGHEST_KEY: u8 = 9;
 
 #[derive(Clone, Copy)]
 pub struct GroupSettings {
     pub key: QuickKey,
-    pub lockout: u8,
+    pub lockout: bool,
 }
 
-impl GroupSettings {
-    pub fn new() -> GroupSettings
-        ensures value { result ≡ new_group }
-    {
+impl Settings for GroupSettings {
+    ghost use Rattle.common.specs.Group.{group_scheme};
+    ghost use Rattle.common.specs.Keeps.{group_keeps};
+
+    ghost scheme = { group_scheme };
+
+    ghost keeps = { group_keeps };
+
+    fn new() -> GroupSettings {
         GroupSettings {
-            key: QuickKey::Dot,
-            lockout: 0,
+            key: None,
+            lockout: false,
         }
     }
 
-    // The row of a field.
-    pub fn row(field: usize) -> FieldRow
-        ensures name { result.name.now ≡ (get_or (with_name Group group_rows) field reserve_row).name }
-        ensures sort { result.sort ≡ (get_or (with_name Group group_rows) field reserve_row).sort }
-    {
+    fn field_count() -> usize {
+        2
+    }
+
+    fn first_part() -> usize {
+        2
+    }
+
+    fn row(field: usize) -> FieldRow {
         match field {
-            0 => FieldRow::new(b"NAME", Sort::Name(StartingName::Group)),
-            1 => FieldRow::new(b"QUICK_KEY", Sort::QuickKey { high: HIGHEST_KEY }),
-            2 => FieldRow::flag(b"LOUT"),
+            0 => FieldRow::new(b"QUICK_KEY", Sort::QuickKey { high: HIGHEST_KEY }),
+            1 => FieldRow::flag(b"LOUT"),
             _ => FieldRow::reserve(),
         }
     }
 
-    // Writes a text into a field, if it is a setting and the text is legal there.
-    pub fn write(&mut self, field: usize, text: &[u8])
-        ensures after { self.new ≡ written_group self.old field text.now }
-    {
+    fn write(&mut self, field: usize, text: &[u8]) {
         match field {
-            1 => if let Some(key) = read_quick_key(text, HIGHEST_KEY) {
-                self.key = key;
-            },
-            2 => if let Some(n) = read_flag(text) {
-                self.lockout = n;
-            },
+            0 => self.key = read_quick_key(text, HIGHEST_KEY).unwrap_or(self.key),
+            1 => self.lockout = read_flag(text).unwrap_or(self.lockout),
             _ => {}
         }
     }
 
-    // Puts the text that a field shows.
-    pub fn show(&self, field: usize, out: &mut [u8], at: usize) -> usize
-        requires room { at + 24 ≤ length out.old }
-        ensures bound { result ≤ at + 24 }
-        ensures end { result ≡ at + length (slice_index_or ([] ∷ group_texts self.now) field []) }
-        ensures buffer { out.new ≡ put out.old at (slice_index_or ([] ∷ group_texts self.now) field []) }
-    {
+    fn show(&self, field: usize, out: &mut [u8], at: usize) -> usize {
         match field {
-            1 => put_quick_key(out, at, self.key),
-            2 => put_number(out, at, self.lockout as u32),
+            0 => put_quick_key(out, at, self.key),
+            1 => put_flag(out, at, self.lockout),
             _ => put_bytes(out, at, b""),
         }
+    }
+}
+
+impl HasName for GroupSettings {
+    ghost use Rattle.std.specs.Prelude.{refl};
+    ghost use Rattle.sorts.specs.declared.sort.StartingName.TheVariants.{Group};
+
+    ghost start = { Group };
+
+    ghost few = { refl };
+
+    ghost fronted = { refl };
+
+    fn starting_name() -> StartingName {
+        StartingName::Group
     }
 }

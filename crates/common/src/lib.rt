@@ -1,12 +1,20 @@
-// What both makes hold alike: names, and the settings of sites, groups and trunk frequencies.
+// What the makes hold alike: names, records, and the settings of sites, groups and trunk frequencies.
 #![tactic(auto)]
 
 mod group;
+mod layout;
 mod name;
+mod named;
+mod record;
+mod settings;
 mod site;
 mod trunk;
 
 pub use group::GroupSettings;
-pub use name::{held_name, put_name, write_name};
+pub use layout::{Layout, MakeOf};
+pub use name::Name;
+pub use named::{HasName, Named};
+pub use record::Record;
+pub use settings::Settings;
 pub use site::SiteSettings;
 pub use trunk::TrunkSettings;

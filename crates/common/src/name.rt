@@ -1,40 +1,62 @@
-// How a record holds its name: an array of 16 bytes, and how many of them count.
-ghost use Rattle.std.specs.Prelude.{◌≡◌, ◌≤◌, length};
-ghost use Rattle.common.specs.Name.{held_name, put_name, written_name, written_length};
+// The name of a record: at most 16 bytes.
+ghost use Rattle.std.specs.Prelude.{◌≡◌, ◌≤◌, List, ℕ, length, take};
+ghost use Rattle.common.specs.Name.{padded, written_name};
+ghost use Rattle.common.specs.NameLaws.{fields_back};
 
 use sorts::{NameText, StartingName, read_name};
+use std::marker::Model;
 
 // The most bytes of a name.
-pub const LONGEST_NAME: usize = 16;
+const LONGEST_NAME: usize = 16;
 
-// The bytes that count.
-pub fn held_name(name: &[u8; 16], len: u8) -> &[u8]
-    ensures value { result.now ≡ held_name name.now len }
-    ensures short { length result.now ≤ 16 }
-{
-    let n = if len < 16 { len as usize } else { LONGEST_NAME };
-    &name[0..n]
+// Behind the bytes that count stand zeros.
+#[derive(Clone, Copy)]
+pub struct Name {
+    bytes: [u8; LONGEST_NAME],
+    len: u8,
 }
 
-// Puts a name, and answers its length.
-pub fn put_name(name: &mut [u8; 16], text: &[u8]) -> u8
-    requires short { length text.now ≤ 16 }
-    ensures len { result ≡ length text.now }
-    ensures after { name.new ≡ put_name name.old text.now }
-{
-    let n = text.len();
-    name[0..n].copy_from_slice(text);
-    n as u8
+impl Model for Name {
+    ghost Value = { List ℕ };
+
+    ghost view = { λ n. take n.len n.bytes };
+
+    ghost invariant = { λ n. (n.len ≤ 16) × (n.bytes ≡ padded (take n.len n.bytes)) };
+
+    ghost inverse = { λ t. record { bytes = padded t; len = length t } };
+
+    ghost inverse_ok = { λ a h. fields_back a.len a.bytes h.0 h.1 (λ bytes len. record { bytes = bytes; len = len }) };
 }
 
-// Writes a text as the name, if it is one, and answers the new length.
-pub fn write_name(name: &mut [u8; 16], len: u8, start: StartingName, text: &[u8]) -> u8
-    ensures len { result ≡ written_length len start text.now }
-    ensures after { name.new ≡ written_name name.old start text.now }
-{
-    match read_name(text) {
-        NameText::Illegal => len,
-        NameText::Blank => put_name(name, start.text()),
-        NameText::Own => put_name(name, text),
+impl Name {
+    pub fn new(text: &[u8]) -> Name
+        requires short { length text.now ≤ 16 }
+        ensures value { result ≡ text.now }
+    {
+        let mut bytes = [0; LONGEST_NAME];
+        bytes[..text.len()].copy_from_slice(text);
+        Name {
+            bytes,
+            len: text.len() as u8,
+        }
+    }
+
+    // The bytes that count.
+    pub fn text(&self) -> &[u8]
+        ensures value { result.now ≡ self.now }
+        ensures short { length result.now ≤ 16 }
+    {
+        &self.bytes[..self.len as usize]
+    }
+
+    // Writes a text as the name, if it is one.
+    pub fn write(&mut self, start: StartingName, text: &[u8])
+        ensures after { self.new ≡ written_name self.old start text.now }
+    {
+        match read_name(text) {
+            None => {}
+            Some(NameText::Blank) => *self = Name::new(start.text()),
+            Some(NameText::Own) => *self = Name::new(text),
+        }
     }
 }

@@ -1,5 +1,6 @@
 -- The shapes of names and texts that a make may have. Assumes nothing.
-use Rattle.std.specs.Prelude.{ℕ, Bool, true, not, ◌&&◌, ◌||◌, List, [], ◌∷◌, length, ◌==◌, nat_le}
+use Rattle.std.specs.Prelude.{ℕ, Bool, not, ◌&&◌, ◌||◌, List, length, ◌==◌, nat_le}
+use Rattle.std.specs.List.{list_all}
 use Rattle.std.specs.Int.{is_in_range}
 
 -- a capital letter or a digit
@@ -16,8 +17,7 @@ text_byte c = is_in_range 32 126 c && not (c == 44)
 
 -- every byte passes a test
 abbrev pub every : (ℕ → Bool) → List ℕ → Bool
-every p [] = true
-every p (c ∷ cs) = p c && every p cs
+every p t = list_all p t
 
 -- a length from low to high
 abbrev pub long : ℕ → ℕ → List ℕ → Bool

@@ -1,5 +1,5 @@
 // The kinds of record.
-#[derive(Clone, Copy, PartialEq, Eq)]
+#[derive(Clone, Copy, Debug, PartialEq, Eq)]
 pub enum Kind {
     System,
     Site,
@@ -8,4 +8,17 @@ pub enum Kind {
     Channel,
     Talkgroup,
     TrunkFrequency,
+}
+
+impl Kind {
+    // The kinds, in their order.
+    pub const ALL: [Kind; 7] = [
+        Kind::System,
+        Kind::Site,
+        Kind::ChannelGroup,
+        Kind::TalkgroupGroup,
+        Kind::Channel,
+        Kind::Talkgroup,
+        Kind::TrunkFrequency,
+    ];
 }

@@ -1,12 +1,10 @@
 // Makes of record: the kinds, what a make fixes, and the trait that every make keeps.
 #![tactic(auto)]
 
-mod bytes;
 mod find;
 mod kind;
 mod rules;
 
-pub use bytes::same_bytes;
 pub use find::type_named;
 pub use kind::Kind;
 pub use rules::Make;

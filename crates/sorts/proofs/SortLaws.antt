@@ -1,5 +1,5 @@
 -- What holds of each sort of field: standard forms are legal and stay, starting texts too, and legal texts have their shape. Assumes nothing.
-use Rattle.std.proofs.Common.{◌≡◌, ℕ, ◌<◌, ◌≤◌, Bool, true, false, cond, ◌&&◌, ◌||◌, eqb, leb, List, [], ◌∷◌, length, ℤ, codes, decimal, refl, ap, ◌∙◌, ⊎_elim, arith}
+use Rattle.std.proofs.Common.{◌≡◌, ℕ, zero, suc, ◌<◌, ◌≤◌, Bool, true, false, cond, ◌&&◌, ◌||◌, eqb, leb, List, [], ◌∷◌, length, ℤ, Some, None, codes, decimal, refl, ap, ◌∙◌, ⊎_elim, arith}
 use Rattle.std.specs.Char.{is_ascii_digit}
 use Rattle.std.specs.Fmt.{signed_decimal, digits}
 use Rattle.std.specs.Str.{all_ascii_digits, bytes_eq}
@@ -12,15 +12,13 @@ use Rattle.text.specs.Frequency.{in_band, legal_frequency}
 use Rattle.text.proofs.Texts.{number_parts, value_below, value_fixed, decimal_number, decimal_value, eight_number}
 use Rattle.text.proofs.Signs.{stands, signed_small}
 use Rattle.make.specs.Shapes.{every, long, text_byte, text_shape}
-use Rattle.sorts.specs.declared.value.QuickKey.TheVariants.{Dot, Key}
-use Rattle.sorts.specs.declared.value.Tag.TheVariants.{Untagged, Tagged}
 use Rattle.sorts.specs.declared.value.Modulation.{Modulation as Wave}
 use Rattle.sorts.specs.declared.value.Modulation.TheVariants.{Auto, Am, Fm, Nfm, Wfm, Fmb}
 use Rattle.sorts.specs.declared.sort.StartingName.{StartingName}
 use Rattle.sorts.specs.declared.sort.StartingName.TheVariants.{System, Site, Group, Channel, Talkgroup}
 use Rattle.sorts.specs.declared.sort.Sort.{Sort}
-use Rattle.sorts.specs.declared.sort.Sort.TheVariants.{Name, Number, Delay, Offset, QuickKey, Tag, Frequency, Modulation, Reserve}
-use Rattle.sorts.specs.Values.{is_between, is_name, all_spaces, start_text, standard_name, is_dot, is_quick_key, quick_key_of, quick_key_text, is_none, is_tag, tag_of, tag_text, is_modulation, modulation_of, modulation_text, is_delay_value, is_offset_value, frequency_text}
+use Rattle.sorts.specs.declared.sort.Sort.TheVariants.{Name, Number, Flag, Delay, Offset, QuickKey, Tag, Frequency, Modulation, Reserve}
+use Rattle.sorts.specs.Values.{is_between, is_name, all_spaces, start_text, standard_name, flag_of, flag_text, is_number_or, number_unless, number_or, no_key, no_tag, is_modulation, modulation_of, modulation_text, is_delay_value, is_offset_value, frequency_text}
 use Rattle.sorts.specs.Sorts.{legal_in, standard_in, start_in, sort_fine, is_reserve_sort}
 
 -- numbers in a range
@@ -38,27 +36,31 @@ not_word : (w t : List ℕ) → all_ascii_digits w ≡ false → is_number 5 t �
 not_word w t h n =
     ⊎_elim (λ e. absurd (both_ways (all_ascii_digits t) (ap all_ascii_digits ((bytes_eq-Decides t w).0 e) ∙ h) (number_parts 5 t n).all)) (λ e. e) (cases_Bool (bytes_eq t w))
 
--- quick keys
-quick_settled : (high : ℕ) (t : List ℕ) (b : Bool) → (b || is_between 0 high t) ≡ true → is_quick_key high (quick_key_text (cond b Dot (Key (value t)))) ≡ true
-quick_settled high t true h = refl
-quick_settled high t false h = or_right (is_dot (decimal (value t))) _ (between_kept 0 high t h)
+-- a flag is shown as its number
+flag_number : (n : ℕ) → n ≤ 1 → flag_text (eqb n 1) ≡ decimal n
+unfolding digits
+flag_number zero h = refl
+flag_number (suc zero) h = refl
+flag_number (suc (suc n)) h = absurd (omega arith)
 
-quick_stable : (high : ℕ) (t : List ℕ) (b : Bool) → (b || is_between 0 high t) ≡ true → quick_key_text (quick_key_of (quick_key_text (cond b Dot (Key (value t))))) ≡ quick_key_text (cond b Dot (Key (value t)))
-quick_stable high t true h = refl
-quick_stable high t false h =
+pub flag_shown : (t : List ℕ) → is_between 0 1 t ≡ true → flag_text (flag_of t) ≡ decimal (value t)
+flag_shown t h =
+    let p = and_parts (leb 0 (value t)) (leb (value t) 1) (and_parts (is_number 5 t) _ h).1 in
+    flag_number (value t) (leb-true (value t) 1 p.1)
+
+-- a word, or a number
+same_word : (word : List ℕ) → bytes_eq word word ≡ true
+same_word word = (bytes_eq-Decides word word).1 refl
+
+word_settled : (word : List ℕ) (high : ℕ) (t : List ℕ) (b : Bool) → (b || is_between 0 high t) ≡ true → is_number_or word high (number_or word (cond b None (Some (value t)))) ≡ true
+word_settled word high t true h = ap (λ b. b || is_between 0 high word) (same_word word)
+word_settled word high t false h = or_right (bytes_eq (decimal (value t)) word) _ (between_kept 0 high t h)
+
+word_stable : (word : List ℕ) (high : ℕ) (t : List ℕ) (b : Bool) → all_ascii_digits word ≡ false → (b || is_between 0 high t) ≡ true → number_or word (number_unless word (number_or word (cond b None (Some (value t))))) ≡ number_or word (cond b None (Some (value t)))
+word_stable word high t true d h = ap (λ b. number_or word (cond b None (Some (value word)))) (same_word word)
+word_stable word high t false d h =
     let small = between_small 0 high t h in
-    ap (λ b. quick_key_text (cond b Dot (Key (value (decimal (value t)))))) (not_word (codes ".") (decimal (value t)) refl (decimal_number (value t) small)) ∙ ap decimal (decimal_value (value t) small)
-
--- tags
-tag_settled : (t : List ℕ) (b : Bool) → (b || is_between 0 999 t) ≡ true → is_tag (tag_text (cond b Untagged (Tagged (value t)))) ≡ true
-tag_settled t true h = refl
-tag_settled t false h = or_right (is_none (decimal (value t))) _ (between_kept 0 999 t h)
-
-tag_stable : (t : List ℕ) (b : Bool) → (b || is_between 0 999 t) ≡ true → tag_text (tag_of (tag_text (cond b Untagged (Tagged (value t))))) ≡ tag_text (cond b Untagged (Tagged (value t)))
-tag_stable t true h = refl
-tag_stable t false h =
-    let small = between_small 0 999 t h in
-    ap (λ b. tag_text (cond b Untagged (Tagged (value (decimal (value t)))))) (not_word (codes "NONE") (decimal (value t)) refl (decimal_number (value t) small)) ∙ ap decimal (decimal_value (value t) small)
+    ap (λ b. number_or word (cond b None (Some (value (decimal (value t)))))) (not_word word (decimal (value t)) d (decimal_number (value t) small)) ∙ ap decimal (decimal_value (value t) small)
 
 -- modulations
 wave_settled : (m : Wave) → is_modulation (modulation_text m) ≡ true
@@ -117,10 +119,11 @@ name_stable start t false e = ap (λ b. cond b (start_text start) t) e
 pub settled : (s : Sort) (t : List ℕ) → legal_in s t ≡ true → legal_in s (standard_in s t) ≡ true
 settled (Name start) t h = cond_both (all_spaces t) (start_text start) t (λ x. is_name x ≡ true) (λ _. (start_name start).0) (λ _. h)
 settled (Number low high) t h = between_kept low high t h
+settled Flag t h = between_kept 0 1 t h
 settled Delay t h = signed_settled is_delay_value t h
 settled Offset t h = signed_settled is_offset_value t h
-settled (QuickKey high) t h = quick_settled high t (is_dot t) h
-settled Tag t h = tag_settled t (is_none t) h
+settled (QuickKey high) t h = word_settled no_key high t (bytes_eq t no_key) h
+settled Tag t h = word_settled no_tag 999 t (bytes_eq t no_tag) h
 settled Frequency t h = frequency_settled t h
 settled Modulation t h = wave_settled (modulation_of t)
 settled Reserve t h = h
@@ -129,10 +132,11 @@ settled Reserve t h = h
 pub stable : (s : Sort) (t : List ℕ) → legal_in s t ≡ true → standard_in s (standard_in s t) ≡ standard_in s t
 stable (Name start) t h = name_stable start t (all_spaces t) refl
 stable (Number low high) t h = ap decimal (decimal_value (value t) (between_small low high t h))
+stable Flag t h = ap decimal (decimal_value (value t) (between_small 0 1 t h))
 stable Delay t h = signed_stable is_delay_value t h
 stable Offset t h = signed_stable is_offset_value t h
-stable (QuickKey high) t h = quick_stable high t (is_dot t) h
-stable Tag t h = tag_stable t (is_none t) h
+stable (QuickKey high) t h = word_stable no_key high t (bytes_eq t no_key) refl h
+stable Tag t h = word_stable no_tag 999 t (bytes_eq t no_tag) refl h
 stable Frequency t h = frequency_stable t h
 stable Modulation t h = ap modulation_text (wave_stable (modulation_of t))
 stable Reserve t h = refl
@@ -182,10 +186,11 @@ wave_shape t h =
 pub shaped : (s : Sort) (t : List ℕ) → legal_in s t ≡ true → text_shape t ≡ true
 shaped (Name start) t h = name_shape t h
 shaped (Number low high) t h = between_shape low high t h
+shaped Flag t h = between_shape 0 1 t h
 shaped Delay t h = signed_shape t (and_parts (is_signed t) _ h).0
 shaped Offset t h = signed_shape t (and_parts (is_signed t) _ h).0
-shaped (QuickKey high) t h = ⊎_elim (word_shape (codes ".") t refl) (between_shape 0 high t) (or_cases (is_dot t) (is_between 0 high t) h)
-shaped Tag t h = ⊎_elim (word_shape (codes "NONE") t refl) (between_shape 0 999 t) (or_cases (is_none t) (is_between 0 999 t) h)
+shaped (QuickKey high) t h = ⊎_elim (word_shape no_key t refl) (between_shape 0 high t) (or_cases (bytes_eq t no_key) (is_between 0 high t) h)
+shaped Tag t h = ⊎_elim (word_shape no_tag t refl) (between_shape 0 999 t) (or_cases (bytes_eq t no_tag) (is_between 0 999 t) h)
 shaped Frequency t h = number_shape 8 t (omega arith) (and_parts (is_number 8 t) _ h).0
 shaped Modulation t h = wave_shape t h
 shaped Reserve t h = absurd (both_ways false refl h)
@@ -209,6 +214,7 @@ started (Name start) f h = ((start_name start).0, ap (λ b. cond b (start_text s
 started (Number low high) f h =
     let p = and_parts (leb low 1) (leb 1 high) f in
     number_starts low high (eqb low 0) refl (leb-true low 1 p.0) (leb-true 1 high p.1)
+started Flag f h = (refl, refl)
 started Delay f h = (refl, refl)
 started Offset f h = (refl, refl)
 started (QuickKey high) f h = (refl, refl)
@@ -221,6 +227,7 @@ started Reserve f h = absurd (both_ways true h refl)
 pub reserved : (s : Sort) → is_reserve_sort s ≡ true → ((t : List ℕ) → legal_in s t ≡ false) × (start_in s ≡ [])
 reserved (Name start) h = absurd (both_ways false refl h)
 reserved (Number low high) h = absurd (both_ways false refl h)
+reserved Flag h = absurd (both_ways false refl h)
 reserved Delay h = absurd (both_ways false refl h)
 reserved Offset h = absurd (both_ways false refl h)
 reserved (QuickKey high) h = absurd (both_ways false refl h)

@@ -1,21 +1,22 @@
 -- Which texts a field of each sort takes, their standard forms, and the text that it starts with. Assumes nothing.
-use Rattle.std.specs.Prelude.{ℕ, Bool, true, false, cond, ◌&&◌, List, [], codes, decimal, ◌==◌, nat_le}
+use Rattle.std.specs.Prelude.{ℕ, Bool, true, false, ◌&&◌, List, [], codes, decimal, ◌==◌, nat_le, if◌then◌else◌}
 use Rattle.std.specs.Fmt.{signed_decimal}
 use Rattle.text.specs.Number.{value}
 use Rattle.text.specs.Signed.{signed_of}
 use Rattle.text.specs.Frequency.{legal_frequency}
 use Rattle.sorts.specs.declared.sort.Sort.{Sort}
-use Rattle.sorts.specs.declared.sort.Sort.TheVariants.{Name, Number, Delay, Offset, QuickKey, Tag, Frequency, Modulation, Reserve}
+use Rattle.sorts.specs.declared.sort.Sort.TheVariants.{Name, Number, Flag, Delay, Offset, QuickKey, Tag, Frequency, Modulation, Reserve}
 use Rattle.sorts.specs.Values.{is_between, is_name, start_text, standard_name, is_quick_key, quick_key_of, quick_key_text, is_tag, tag_of, tag_text, is_modulation, modulation_of, modulation_text, is_delay, is_offset, frequency_text}
 
 -- a field without a range is 0 or 1
 abbrev pub flag : Sort
-flag = Number 0 1
+flag = Flag
 
 -- the texts that a field of each sort takes
 abbrev pub legal_in : Sort → List ℕ → Bool
 legal_in (Name start) t = is_name t
 legal_in (Number low high) t = is_between low high t
+legal_in Flag t = is_between 0 1 t
 legal_in Delay t = is_delay t
 legal_in Offset t = is_offset t
 legal_in (QuickKey high) t = is_quick_key high t
@@ -28,6 +29,7 @@ legal_in Reserve t = false
 abbrev pub standard_in : Sort → List ℕ → List ℕ
 standard_in (Name start) t = standard_name start t
 standard_in (Number low high) t = decimal (value t)
+standard_in Flag t = decimal (value t)
 standard_in Delay t = signed_decimal (signed_of t)
 standard_in Offset t = signed_decimal (signed_of t)
 standard_in (QuickKey high) t = quick_key_text (quick_key_of t)
@@ -39,7 +41,8 @@ standard_in Reserve t = []
 -- the starting text: a number starts at 0, or at 1 where 0 is not legal
 abbrev pub start_in : Sort → List ℕ
 start_in (Name start) = start_text start
-start_in (Number low high) = cond (low == 0) (codes "0") (codes "1")
+start_in (Number low high) = if low == 0 then codes "0" else codes "1"
+start_in Flag = codes "0"
 start_in Delay = codes "0"
 start_in Offset = codes "0"
 start_in (QuickKey high) = codes "."
@@ -52,6 +55,7 @@ start_in Reserve = []
 abbrev pub sort_fine : Sort → Bool
 sort_fine (Name start) = true
 sort_fine (Number low high) = nat_le low 1 && nat_le 1 high
+sort_fine Flag = true
 sort_fine Delay = true
 sort_fine Offset = true
 sort_fine (QuickKey high) = true
@@ -64,6 +68,7 @@ sort_fine Reserve = true
 abbrev pub is_reserve_sort : Sort → Bool
 is_reserve_sort (Name start) = false
 is_reserve_sort (Number low high) = false
+is_reserve_sort Flag = false
 is_reserve_sort Delay = false
 is_reserve_sort Offset = false
 is_reserve_sort (QuickKey high) = false

@@ -1,18 +1,14 @@
 -- The values that texts stand for, and the texts that show them. Assumes nothing.
-use Rattle.std.specs.Prelude.{ℕ, ◌+◌, Bool, cond, ◌&&◌, ◌||◌, List, ℤ, pos, negsuc, codes, decimal, ◌==◌, nat_le}
+use Rattle.std.specs.Prelude.{ℕ, ◌+◌, Bool, true, false, ◌&&◌, ◌||◌, List, ℤ, pos, negsuc, Option, Some, None, codes, decimal, ◌==◌, nat_le, if◌then◌else◌}
 use Rattle.std.specs.Str.{bytes_eq}
 use Rattle.text.specs.Number.{is_number, value, fixed}
 use Rattle.text.specs.Frequency.{in_band}
 use Rattle.text.specs.Signed.{is_signed, signed_of}
 use Rattle.make.specs.Shapes.{every, long, text_byte}
-use Rattle.sorts.specs.declared.value.QuickKey.{QuickKey}
-use Rattle.sorts.specs.declared.value.QuickKey.TheVariants.{Dot, Key}
-use Rattle.sorts.specs.declared.value.Tag.{Tag}
-use Rattle.sorts.specs.declared.value.Tag.TheVariants.{Untagged, Tagged}
 use Rattle.sorts.specs.declared.value.Modulation.{Modulation}
 use Rattle.sorts.specs.declared.value.Modulation.TheVariants.{Auto, Am, Fm, Nfm, Wfm, Fmb}
 use Rattle.sorts.specs.declared.value.NameText.{NameText}
-use Rattle.sorts.specs.declared.value.NameText.TheVariants.{Illegal, Blank, Own}
+use Rattle.sorts.specs.declared.value.NameText.TheVariants.{Blank, Own}
 use Rattle.sorts.specs.declared.sort.StartingName.{StartingName}
 use Rattle.sorts.specs.declared.sort.StartingName.TheVariants.{System, Site, Group, Channel, Talkgroup}
 
@@ -32,9 +28,9 @@ is_space c = c == 32
 abbrev pub all_spaces : List ℕ → Bool
 all_spaces t = every is_space t
 
--- a text as a name: not a name, only spaces, or a name of its own
-abbrev pub name_text : List ℕ → NameText
-name_text t = cond (is_name t) (cond (all_spaces t) Blank Own) Illegal
+-- a text as a name, if it is one: only spaces, or a name of its own
+abbrev pub name_text : List ℕ → Option NameText
+name_text t = if is_name t then Some (if all_spaces t then Blank else Own) else None
 
 -- the names that new records have
 abbrev pub start_text : StartingName → List ℕ
@@ -46,41 +42,61 @@ start_text Talkgroup = codes "TGID"
 
 -- only spaces give the starting name, and other names are their own standard form
 abbrev pub standard_name : StartingName → List ℕ → List ℕ
-standard_name start t = cond (all_spaces t) (start_text start) t
+standard_name start t = if all_spaces t then start_text start else t
+
+-- a flag is set where its number is 1
+abbrev pub flag_of : List ℕ → Bool
+flag_of t = value t == 1
+
+-- the text that shows a flag
+abbrev pub flag_text : Bool → List ℕ
+flag_text true = codes "1"
+flag_text false = codes "0"
+
+-- a word that stands for no number, or a number from 0 to high
+abbrev pub is_number_or : List ℕ → ℕ → List ℕ → Bool
+is_number_or word high t = bytes_eq t word || is_between 0 high t
+
+-- the number that such a text writes, if it is not the word
+abbrev pub number_unless : List ℕ → List ℕ → Option ℕ
+number_unless word t = if bytes_eq t word then None else Some (value t)
+
+-- the text that shows a number, or the word for none
+abbrev pub number_or : List ℕ → Option ℕ → List ℕ
+number_or word None = word
+number_or word (Some n) = decimal n
 
 -- a quick key is a dot, or a number from 0 to high
-abbrev pub is_dot : List ℕ → Bool
-is_dot t = bytes_eq t (codes ".")
+abbrev pub no_key : List ℕ
+no_key = codes "."
 
 -- a text that writes a quick key
 abbrev pub is_quick_key : ℕ → List ℕ → Bool
-is_quick_key high t = is_dot t || is_between 0 high t
+is_quick_key high t = is_number_or no_key high t
 
 -- the quick key that it writes
-abbrev pub quick_key_of : List ℕ → QuickKey
-quick_key_of t = cond (is_dot t) Dot (Key (value t))
+abbrev pub quick_key_of : List ℕ → Option ℕ
+quick_key_of t = number_unless no_key t
 
 -- the text that shows a quick key
-abbrev pub quick_key_text : QuickKey → List ℕ
-quick_key_text Dot = codes "."
-quick_key_text (Key n) = decimal n
+abbrev pub quick_key_text : Option ℕ → List ℕ
+quick_key_text key = number_or no_key key
 
 -- a tag is NONE, or a number from 0 to 999
-abbrev pub is_none : List ℕ → Bool
-is_none t = bytes_eq t (codes "NONE")
+abbrev pub no_tag : List ℕ
+no_tag = codes "NONE"
 
 -- a text that writes a tag
 abbrev pub is_tag : List ℕ → Bool
-is_tag t = is_none t || is_between 0 999 t
+is_tag t = is_number_or no_tag 999 t
 
 -- the tag that it writes
-abbrev pub tag_of : List ℕ → Tag
-tag_of t = cond (is_none t) Untagged (Tagged (value t))
+abbrev pub tag_of : List ℕ → Option ℕ
+tag_of t = number_unless no_tag t
 
 -- the text that shows a tag
-abbrev pub tag_text : Tag → List ℕ
-tag_text Untagged = codes "NONE"
-tag_text (Tagged n) = decimal n
+abbrev pub tag_text : Option ℕ → List ℕ
+tag_text tag = number_or no_tag tag
 
 -- a modulation is one of six words
 abbrev pub modulation_text : Modulation → List ℕ
@@ -101,12 +117,21 @@ is_modulation t = shows t Auto || (shows t Am || (shows t Fm || (shows t Nfm || 
 
 -- the modulation that it names
 abbrev pub modulation_of : List ℕ → Modulation
-modulation_of t = cond (shows t Auto) Auto (cond (shows t Am) Am (cond (shows t Fm) Fm (cond (shows t Nfm) Nfm (cond (shows t Wfm) Wfm Fmb))))
+modulation_of t = if shows t Auto then Auto else (if shows t Am then Am else (if shows t Fm then Fm else (if shows t Nfm then Nfm else (if shows t Wfm then Wfm else Fmb))))
+
+-- the numbers that a byte with a sign holds: -128 to 127
+abbrev pub is_short_value : ℤ → Bool
+is_short_value (pos n) = nat_le n 127
+is_short_value (negsuc n) = nat_le (n + 1) 128
 
 -- the delays with a sign: -10, -5, -2, 0, 1, 2, 5, 10, 30
 abbrev pub is_delay_value : ℤ → Bool
 is_delay_value (pos n) = n == 0 || (n == 1 || (n == 2 || (n == 5 || (n == 10 || n == 30))))
 is_delay_value (negsuc n) = n + 1 == 2 || (n + 1 == 5 || n + 1 == 10)
+
+-- a text that writes a number with a sign that a byte holds
+abbrev pub is_short : List ℕ → Bool
+is_short t = is_signed t && is_short_value (signed_of t)
 
 -- a text that writes a delay
 abbrev pub is_delay : List ℕ → Bool
@@ -123,4 +148,4 @@ is_offset t = is_signed t && is_offset_value (signed_of t)
 
 -- a frequency is shown with eight digits; a number of steps that is no frequency counts as 0
 abbrev pub frequency_text : ℕ → List ℕ
-frequency_text n = fixed 8 (cond (in_band n) n 0)
+frequency_text n = fixed 8 (if in_band n then n else 0)

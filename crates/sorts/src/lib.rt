@@ -18,4 +18,6 @@ pub use row::FieldRow;
 pub use signed::{read_delay, read_offset};
 pub use sort::{Sort, StartingName};
 pub use value::{Modulation, NameText, QuickKey, Tag};
-pub use word::{put_modulation, put_quick_key, put_tag, read_modulation, read_quick_key, read_tag};
+pub use word::{
+    put_flag, put_modulation, put_quick_key, put_tag, read_modulation, read_quick_key, read_tag,
+};

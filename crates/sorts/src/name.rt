@@ -1,7 +1,7 @@
 // Names: 1 to 16 bytes, where only spaces give the starting name.
 ghost use Rattle.std.specs.Prelude.{◌≡◌};
-ghost use Rattle.make.specs.Shapes.{text_byte, long};
-ghost use Rattle.sorts.specs.Values.{name_text, start_text};
+ghost use Rattle.make.specs.Shapes.{text_byte, every, long};
+ghost use Rattle.sorts.specs.Values.{all_spaces, name_text, start_text};
 
 use crate::sort::StartingName;
 use crate::value::NameText;
@@ -23,24 +23,28 @@ fn has_name_length(text: &[u8]) -> bool
     text.len() >= 1 && text.len() <= LONGEST_NAME
 }
 
-// What a text is as a name.
-pub fn read_name(text: &[u8]) -> NameText
+fn has_text_bytes(text: &[u8]) -> bool
+    ensures value { result ≡ every text_byte text.now }
+{
+    text.iter().all(|byte| is_text_byte(*byte))
+}
+
+fn has_only_spaces(text: &[u8]) -> bool
+    ensures value { result ≡ all_spaces text.now }
+{
+    text.iter().all(|byte| *byte == b' ')
+}
+
+// What a text is as a name, if it is one.
+pub fn read_name(text: &[u8]) -> Option<NameText>
     ensures value { result ≡ name_text text.now }
 {
-    if !has_name_length(text) {
-        return NameText::Illegal;
-    }
-    let mut blank = true;
-    for b in text {
-        if !is_text_byte(*b) {
-            return NameText::Illegal;
-        }
-        blank = blank && *b == b' ';
-    }
-    if blank {
-        NameText::Blank
+    if !has_name_length(text) || !has_text_bytes(text) {
+        None
+    } else if has_only_spaces(text) {
+        Some(NameText::Blank)
     } else {
-        NameText::Own
+        Some(NameText::Own)
     }
 }
 

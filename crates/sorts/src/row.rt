@@ -35,7 +35,7 @@ impl FieldRow {
         ensures name { result.name.now ≡ name.now }
         ensures sort { result.sort ≡ flag }
     {
-        FieldRow::small(name, 0, 1)
+        FieldRow::new(name, Sort::Flag)
     }
 
     // The row of a reserve field.

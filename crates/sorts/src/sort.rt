@@ -1,10 +1,12 @@
 // The sorts of field.
-#[derive(Clone, Copy)]
+#[derive(Clone, Copy, Debug, PartialEq, Eq)]
 pub enum Sort {
     // 1 to 16 bytes; only spaces give the starting name
     Name(StartingName),
     // a number from `low` to `high`
     Number { low: u32, high: u32 },
+    // 0 or 1
+    Flag,
     // one of the listed delays, which may have a sign
     Delay,
     // a volume offset from -3 to 3
@@ -20,7 +22,7 @@ pub enum Sort {
 }
 
 // The names that new records have.
-#[derive(Clone, Copy)]
+#[derive(Clone, Copy, Debug, PartialEq, Eq)]
 pub enum StartingName {
     System,
     Site,

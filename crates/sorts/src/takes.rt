@@ -3,10 +3,9 @@ ghost use Rattle.std.specs.Prelude.{◌≡◌};
 ghost use Rattle.sorts.specs.Sorts.{legal_in};
 
 use crate::name::read_name;
-use crate::range::{read_between, read_frequency};
+use crate::range::{read_between, read_flag, read_frequency};
 use crate::signed::{read_delay, read_offset};
 use crate::sort::Sort;
-use crate::value::NameText;
 use crate::word::{read_modulation, read_quick_key, read_tag};
 
 impl Sort {
@@ -14,12 +13,9 @@ impl Sort {
         ensures value { result ≡ legal_in self text.now }
     {
         match self {
-            Sort::Name(_) => match read_name(text) {
-                NameText::Illegal => false,
-                NameText::Blank => true,
-                NameText::Own => true,
-            },
+            Sort::Name(_) => read_name(text).is_some(),
             Sort::Number { low, high } => read_between(text, low, high).is_some(),
+            Sort::Flag => read_flag(text).is_some(),
             Sort::Delay => read_delay(text).is_some(),
             Sort::Offset => read_offset(text).is_some(),
             Sort::QuickKey { high } => read_quick_key(text, high).is_some(),

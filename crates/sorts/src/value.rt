@@ -1,17 +1,12 @@
 // The values that fields hold.
-#[derive(Clone, Copy)]
-pub enum QuickKey {
-    Dot,
-    Key(u8),
-}
 
-#[derive(Clone, Copy)]
-pub enum Tag {
-    Untagged,
-    Tagged(u16),
-}
+// A quick key: a number, or a dot where there is none.
+pub type QuickKey = Option<u8>;
 
-#[derive(Clone, Copy)]
+// A tag: a number, or NONE where there is none.
+pub type Tag = Option<u16>;
+
+#[derive(Clone, Copy, Debug, PartialEq, Eq)]
 pub enum Modulation {
     Auto,
     Am,
@@ -21,10 +16,9 @@ pub enum Modulation {
     Fmb,
 }
 
-// What a text is as a name.
-#[derive(Clone, Copy)]
+// What a text that is a name stands for: the starting name, or itself.
+#[derive(Clone, Copy, Debug, PartialEq, Eq)]
 pub enum NameText {
-    Illegal,
     Blank,
     Own,
 }

@@ -4,5 +4,5 @@ use Rattle.sorts.proofs.PlanLaws.{plan_keeps}
 use Rattle.bcd996t.specs.Table.{plan}
 use Rattle.bcd996t.proofs.keeping.keeps_rules.Goals as goal
 
-pub returns : goal.returns
-returns c = record { law = plan_keeps plan refl }
+pub returns-clause-law : goal.returns-clause-law
+returns-clause-law c = plan_keeps plan refl
