@@ -55,7 +55,7 @@ impl Link {
         match (self, branch) {
             (Link::Used(member), Branch::First) => member.first,
             (Link::Used(member), Branch::Second) => member.second,
-            (Link::Free(_), _) => Ends { head: 0, tail: 0 },
+            (Link::Free(_), _) => Ends::NONE,
         }
     }
 

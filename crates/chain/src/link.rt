@@ -3,7 +3,7 @@ ghost use Rattle.std.specs.Prelude.{◌≡◌};
 ghost use Rattle.chain.specs.Entry.{found};
 
 // A block, by its number from 1 to the block count.
-#[derive(Clone, Copy)]
+#[derive(Clone, Copy, PartialEq, Eq)]
 pub struct Index {
     pub(crate) number: u32,
 }
@@ -54,6 +54,11 @@ pub enum Chain {
 pub struct Ends {
     pub(crate) head: u32,
     pub(crate) tail: u32,
+}
+
+impl Ends {
+    // The ends of an empty chain.
+    pub(crate) const NONE: Ends = Ends { head: 0, tail: 0 };
 }
 
 // A block in a chain: its neighbours by number, 0 for none, its chain, and the ends of the chains of its own members.

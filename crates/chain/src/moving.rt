@@ -3,13 +3,13 @@ ghost use Rattle.std.specs.Prelude.{◌≡◌, ◌+◌, ◌-◌, ◌≤◌, [], 
 ghost use Rattle.chain.specs.Entry.{found, number, first_of, second_of, link_at};
 ghost use Rattle.chain.specs.Rows.{occ, head_or};
 ghost use Rattle.chain.specs.Blocks.{occ_all, total, Living, created, taken, pushed};
-ghost use Rattle.chain.specs.View.{Loose, Sound, blocks_of, chains_of, chain_of, free_of};
+ghost use Rattle.chain.specs.Tables.{Loose, Sound, blocks_in, chains_in, chain_in, free_in};
 
-use crate::chains::Chains;
 use crate::entry::{join, set_free, set_next};
 use crate::link::{Chain, Ends, Index, Link, Member};
+use crate::tables::Tables;
 
-impl<'a> Chains<'a> {
+impl<'a> Tables<'a> {
     // Takes the front block off the free stack, which has one.
     fn take_front(&mut self) -> u32
         requires from { 1 ≤ self.old.free }
@@ -29,12 +29,12 @@ impl<'a> Chains<'a> {
     }
 
     // Takes the front block of the free stack, and puts it behind the tail of `chain`; none where no block is free.
-    pub fn append(&mut self, chain: Chain) -> Option<Index>
+    pub(crate) fn append(&mut self, chain: Chain) -> Option<Index>
         requires sound { Sound self.old }
-        requires living { Living (blocks_of self.old) chain }
+        requires living { Living (blocks_in self.old) chain }
         ensures sound { Sound self.new }
-        ensures answer { result ≡ found (head_or 0 (free_of self.old)) }
-        ensures blocks { blocks_of self.new ≡ created (blocks_of self.old) (number chain) }
+        ensures answer { result ≡ found (head_or 0 (free_in self.old)) }
+        ensures blocks { blocks_in self.new ≡ created (blocks_in self.old) (number chain) }
         ensures count { self.new.count ≡ self.old.count }
         ensures later { drop self.old.count self.new.links.now ≡ drop self.old.count self.old.links.now }
     {
@@ -47,8 +47,8 @@ impl<'a> Chains<'a> {
             previous: ends.tail,
             next: 0,
             chain,
-            first: Ends { head: 0, tail: 0 },
-            second: Ends { head: 0, tail: 0 },
+            first: Ends::NONE,
+            second: Ends::NONE,
         });
         set_next(self.links, ends.tail, x);
         self.set_ends(chain, ends.with(x));
@@ -58,9 +58,9 @@ impl<'a> Chains<'a> {
     // Takes block `x` out of its chain; it is then in none, and not free.
     pub(crate) fn unlink(&mut self, x: u32)
         requires loose { Loose self.old }
-        requires member { 1 ≤ occ_all x (chains_of self.old) }
+        requires member { 1 ≤ occ_all x (chains_in self.old) }
         ensures loose { Loose self.new }
-        ensures blocks { blocks_of self.new ≡ taken (blocks_of self.old) x }
+        ensures blocks { blocks_in self.new ≡ taken (blocks_in self.old) x }
         ensures count { self.new.count ≡ self.old.count }
         ensures later { drop self.old.count self.new.links.now ≡ drop self.old.count self.old.links.now }
     {
@@ -77,12 +77,12 @@ impl<'a> Chains<'a> {
         requires loose { Loose self.old }
         requires from { 1 ≤ x }
         requires upto { x ≤ self.old.count }
-        requires out { occ x (free_of self.old) + occ_all x (chains_of self.old) ≡ 0 }
-        requires room { length (free_of self.old) + total (chains_of self.old) + 1 ≤ self.old.count }
-        requires first { chain_of self.old (first_of x) ≡ [] }
-        requires second { chain_of self.old (second_of x) ≡ [] }
+        requires out { occ x (free_in self.old) + occ_all x (chains_in self.old) ≡ 0 }
+        requires room { length (free_in self.old) + total (chains_in self.old) + 1 ≤ self.old.count }
+        requires first { chain_in self.old (first_of x) ≡ [] }
+        requires second { chain_in self.old (second_of x) ≡ [] }
         ensures loose { Loose self.new }
-        ensures blocks { blocks_of self.new ≡ pushed (blocks_of self.old) x }
+        ensures blocks { blocks_in self.new ≡ pushed (blocks_in self.old) x }
         ensures count { self.new.count ≡ self.old.count }
         ensures later { drop self.old.count self.new.links.now ≡ drop self.old.count self.old.links.now }
     {

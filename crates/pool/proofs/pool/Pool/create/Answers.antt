@@ -8,11 +8,11 @@ use Rattle.chain.proofs.Walks.{found_number}
 use Rattle.pool.proofs.pool.Pool.create.Goals as goal
 
 pub offset_bounds-self-number : goal.offset_bounds-self-number
-offset_bounds-self-number g c = let h = top_within _ (loose _ c.requires.sound) in let e = free_head _ (loose _ c.requires.sound) in search rules
+offset_bounds-self-number g c = let h = top_within _ (loose _ c.args.self.now.chains.sound) in let e = free_head _ (loose _ c.args.self.now.chains.sound) in search rules
 
 pub bounds-self-number : goal.bounds-self-number
 bounds-self-number g c =
-    let h = top_within _ (loose _ c.requires.sound) in
-    let e = free_head _ (loose _ c.requires.sound) in
+    let h = top_within _ (loose _ c.args.self.now.chains.sound) in
+    let e = free_head _ (loose _ c.args.self.now.chains.sound) in
     let f = found_number (head_or 0 (free_of c.args.self.now.chains)) c.in-Some.x (sym c.in-Some.is ∙ c.append-created.ensures.answer) in
-    omega (arith, h, e, f, c.number.ensures, c.requires.roomy)
+    omega (arith, h, e, f, c.number.ensures, c.args.self.now.roomy)

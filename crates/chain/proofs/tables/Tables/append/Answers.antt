@@ -6,7 +6,7 @@ use Rattle.chain.proofs.Numbers.{within_more}
 use Rattle.chain.proofs.Seen.{loose}
 use Rattle.chain.proofs.Moves.{top_within, free_head, free_none, none_created, spare_some, may_within, tail_within}
 use Rattle.chain.proofs.Steps.{put_behind, put_sound, put_blocks, put_later}
-use Rattle.chain.proofs.chains.Chains.append.Goals as goal
+use Rattle.chain.proofs.tables.Tables.append.Goals as goal
 
 pub returns-then-self-eq0 : goal.returns-then-self-eq0
 returns-then-self-eq0 c =

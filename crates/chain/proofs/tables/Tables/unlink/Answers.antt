@@ -4,7 +4,7 @@ use Rattle.chain.specs.Entry.{ends_in, link_at, hung}
 use Rattle.chain.proofs.Numbers.{within_more}
 use Rattle.chain.proofs.Moves.{member_within}
 use Rattle.chain.proofs.Steps.{cut_bounds, cut_within, cut_loose, cut_blocks, cut_later, not_free}
-use Rattle.chain.proofs.chains.Chains.unlink.Goals as goal
+use Rattle.chain.proofs.tables.Tables.unlink.Goals as goal
 
 pub overflow_sub-link : goal.overflow_sub-link
 overflow_sub-link c = let h = member_within _ _ c.requires.loose c.requires.member in omega arith

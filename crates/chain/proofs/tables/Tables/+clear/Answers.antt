@@ -3,10 +3,10 @@ use Rattle.std.proofs.Common.{◌+◌, length, drop, sym, ap, ◌∙◌, arith}
 use Rattle.chain.specs.Rows.{occ}
 use Rattle.chain.specs.Blocks.{occ_all, total, pushed, each, removed, chain}
 use Rattle.chain.specs.Entry.{first_of, second_of}
-use Rattle.chain.specs.View.{blocks_of}
+use Rattle.chain.specs.Tables.{blocks_in}
 use Rattle.chain.proofs.Moves.{top_within, member_within}
 use Rattle.chain.proofs.Cleared.{front_is, front_none, front_there, left_total, left_out, left_room, going_less, going_next}
-use Rattle.chain.proofs.chains.Chains.+clear.Goals as goal
+use Rattle.chain.proofs.tables.Tables.+clear.Goals as goal
 
 pub front_member-y-requires : goal.front_member-y-requires
 front_member-y-requires t c = let h = top_within _ c.loop-y.invariant.sure in let n = c.loop-y.invariant.count in record { from = c.requires.from; upto = omega (arith, c.requires.upto) }
@@ -64,7 +64,7 @@ returns t c =
     let e = c.push.ensures in
     record {
       loose = e.loose;
-      blocks = λ m h. e.blocks ∙ ap (λ z. pushed z x) (sym (ap (λ z. each (removed m) (each (removed m) (blocks_of p) z) (chain (blocks_of p) (second_of x))) n.0 ∙ ap (λ z. each (removed m) (blocks_of p) z) n.1) ∙ g.gone m h);
+      blocks = λ m h. e.blocks ∙ ap (λ z. pushed z x) (sym (ap (λ z. each (removed m) (each (removed m) (blocks_in p) z) (chain (blocks_in p) (second_of x))) n.0 ∙ ap (λ z. each (removed m) (blocks_in p) z) n.1) ∙ g.gone m h);
       counts = λ i. ap (λ z. occ i z.free + occ_all i z.chains) e.blocks ∙ omega (arith, g.counts i);
       size = ap (λ z. length z.free + total z.chains) e.blocks ∙ omega (arith, g.size);
       fewer = omega (arith, ap (λ z. total z.chains) e.blocks, g.fewer);

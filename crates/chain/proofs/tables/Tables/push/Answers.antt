@@ -2,7 +2,7 @@
 use Rattle.std.proofs.Common.{refl, arith, rules}
 use Rattle.chain.proofs.Moves.{top_within, spare_is}
 use Rattle.chain.proofs.Steps.{stacked_loose, stacked_blocks, stacked_later}
-use Rattle.chain.proofs.chains.Chains.push.Goals as goal
+use Rattle.chain.proofs.tables.Tables.push.Goals as goal
 
 pub set_free-requires : goal.set_free-requires
 set_free-requires c = let h = top_within _ c.requires.loose in record { from = c.requires.from; upto = omega (arith, c.requires.upto) }
