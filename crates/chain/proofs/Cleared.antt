@@ -1,17 +1,18 @@
 -- A block that is freed after its members. Assumes nothing.
-use Rattle.std.proofs.Common.{◌≡◌, ℕ, zero, suc, ◌+◌, ◌<◌, ◌≤◌, cond, ◌≢◌, ◌⊎◌, List, [], ◌∷◌, map, length, get_or, drop, sym, refl, ap, ◌∙◌, inl, inr, arith, length-append}
+use Rattle.std.proofs.Common.{◌≡◌, ℕ, zero, suc, ◌+◌, ◌<◌, ◌≤◌, cond, ◌≢◌, ◌⊎◌, List, [], ◌∷◌, map, length, get_or, drop, Some, None, sym, refl, ap, ◌∙◌, inl, inr, arith, length-append}
 use mathlib.Core.List.{is_set}
 use mathlib.Core.Logic.{∥∥₁_map}
 use native.Mathlib.Nat.{ℕ_set}
 use native.Mathlib.Bridge.{le_prop}
 use Rattle.std.proofs.lemmas.List.{get_or-map, get_or_past, length-map}
 use Rattle.std.proofs.lemmas.Bool.{cases_lt, cases_eq, lt-ltb, le-ltb, eq-eqb, ne_eqb}
+use Rattle.chain.specs.declared.link.Index.{Index}
 use Rattle.chain.specs.declared.tables.Tables.{Tables}
-use Rattle.chain.specs.Entry.{front_of, first_of, second_of}
+use Rattle.chain.specs.Entry.{found, front_of, first_of, second_of}
 use Rattle.chain.specs.Rows.{head_or, tick, occ, Row}
 use Rattle.chain.specs.Blocks.{Blocks, chain, occ_all, total, taken, without, each, cleared, removed}
 use Rattle.chain.specs.Tables.{Loose, Sound, blocks_in, chains_in, chain_in, free_in}
-use Rattle.chain.proofs.Numbers.{ends_first, ends_second}
+use Rattle.chain.proofs.Numbers.{ends_first, ends_second, found_number, found_none}
 use Rattle.chain.proofs.Keeps.{tick_same, occ-append}
 use Rattle.chain.proofs.Counts.{occ_one, occ_two, occ_set, total_set}
 use Rattle.chain.proofs.Homes.{home_some, without_none, without_one}
@@ -78,11 +79,11 @@ pub record Front (p : Tables) (x y : ℕ) : Type 0 where
   pub rest : List ℕ
   pub either : (chain_in p (first_of x) ≡ y ∷ rest) ⊎ ((chain_in p (first_of x) ≡ []) × (chain_in p (second_of x) ≡ y ∷ rest))
 
-pub front_is : (p : Tables) (x y : ℕ) → Loose p → 1 ≤ x → x ≤ p.count → y ≡ front_of (f_of p x) → (y ≡ 0 → ⊥) → Front p x y
-front_is p x y s x1 xn is ne = elim (cases_lt 0 (f_of p x).first.head) [
-  | inl h ↦ let r = cons y (chain_in p (first_of x)) (omega (arith, ne)) (is ∙ ap (λ b. cond b (f_of p x).first.head (f_of p x).second.head) (lt-ltb 0 _ h) ∙ first_head p x s x1 xn) in
+pub front_is : (p : Tables) (x : ℕ) (z : Index) → Loose p → 1 ≤ x → x ≤ p.count → Some z ≡ found (front_of (f_of p x)) → Front p x z.number
+front_is p x z s x1 xn e = let y = z.number in let k = found_number (front_of (f_of p x)) z e in let is : y ≡ front_of (f_of p x) = sym k.0 in elim (cases_lt 0 (f_of p x).first.head) [
+  | inl h ↦ let r = cons y (chain_in p (first_of x)) (omega (arith, is, k.1)) (is ∙ ap (λ b. cond b (f_of p x).first.head (f_of p x).second.head) (lt-ltb 0 _ h) ∙ first_head p x s x1 xn) in
       record { rest = r.0; either = inl r.1 }
-  | inr h ↦ let r = cons y (chain_in p (second_of x)) (omega (arith, ne)) (is ∙ ap (λ b. cond b (f_of p x).first.head (f_of p x).second.head) (le-ltb 0 _ h) ∙ second_head p x s x1 xn) in
+  | inr h ↦ let r = cons y (chain_in p (second_of x)) (omega (arith, is, k.1)) (is ∙ ap (λ b. cond b (f_of p x).first.head (f_of p x).second.head) (le-ltb 0 _ h) ∙ second_head p x s x1 xn) in
       record { rest = r.0; either = inr (none p x s x1 xn (first_of x) (omega (arith, x1, xn)) (omega (arith, h, first_head p x s x1 xn)), r.1) }
 ]
 
@@ -92,8 +93,8 @@ front_there p x y f = elim f.either [ inl is ↦ in_some (first_of x) is | inr r
     in_some : (c : ℕ) → chain_in p c ≡ y ∷ f.rest → 1 ≤ occ_all y (chains_in p)
     in_some c is = omega (arith, occ_one y c (chains_in p), ap (occ y) is, tick_same y)
 
-pub front_none : (p : Tables) (x : ℕ) → Loose p → 1 ≤ x → x ≤ p.count → front_of (f_of p x) ≡ 0 → (chain_in p (first_of x) ≡ []) × (chain_in p (second_of x) ≡ [])
-front_none p x s x1 xn is = elim (cases_lt 0 (f_of p x).first.head) [
+pub front_none : (p : Tables) (x : ℕ) → Loose p → 1 ≤ x → x ≤ p.count → None ≡ found (front_of (f_of p x)) → (chain_in p (first_of x) ≡ []) × (chain_in p (second_of x) ≡ [])
+front_none p x s x1 xn e = let is = found_none (front_of (f_of p x)) e in elim (cases_lt 0 (f_of p x).first.head) [
   | inl h ↦ absurd (omega (arith, h, sym (ap (λ b. cond b (f_of p x).first.head (f_of p x).second.head) (lt-ltb 0 _ h)) ∙ is))
   | inr h ↦ (
     none p x s x1 xn (first_of x) (omega (arith, x1, xn)) (omega (arith, h, first_head p x s x1 xn)),

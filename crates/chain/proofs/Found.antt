@@ -10,7 +10,7 @@ use Rattle.chain.specs.declared.link.Chain.{Chain}
 use Rattle.chain.specs.declared.link.Link.{Link}
 use Rattle.chain.specs.declared.link.Link.TheVariants.{Free, Used}
 use Rattle.chain.specs.declared.tables.Tables.{Tables}
-use Rattle.chain.specs.Entry.{Entry, entry, nowhere, link_at, ends_in, number, chain_at, first_of, second_of}
+use Rattle.chain.specs.Entry.{member_of, Entry, entry, nowhere, link_at, ends_in, number, chain_at, first_of, second_of}
 use Rattle.chain.specs.Rows.{head_or, last_or, tick, occ, Row}
 use Rattle.chain.specs.Blocks.{Blocks, chain, occ_all, is_used, Living, home_in, home_of, next_of, prev_from, prev_of, link_by, link_of}
 use Rattle.chain.specs.Kept.{Stack}
@@ -113,19 +113,16 @@ module _ (p : Tables) (s : Sound p) (x : ℕ) where
       ]) in
       ap Free (sym (next_none x (free_in p) free)) ∙ ap (link_by (blocks_in p) x) (sym (home_none (chains_in p) 0 x none))
 
--- what a link says of its block
-pub used_by : (L : Blocks) (x : ℕ) (l : Link) → l ≡ link_of L x → (entry l).home ≡ home_of L x
-used_by L x l is = ap (λ z. (entry z).home) is ∙ by (home_of L x)
-  where
-    by : (h : Option Chain) → (entry (link_by L x h)).home ≡ h
-    by None = refl
-    by (Some c) = refl
-
-pub used_test : (L : Blocks) (x : ℕ) → is_some (home_of L x) ≡ is_used L x
-used_test L x = elim (cases_lt 0 (occ_all x L.chains)) [
+-- whether a block is in use, by its link
+pub used_test : (L : Blocks) (x : ℕ) → is_some (member_of (link_of L x)) ≡ is_used L x
+used_test L x = by (home_of L x) ∙ elim (cases_lt 0 (occ_all x L.chains)) [
   | inl some ↦ ap is_some (home_some L.chains 0 x some).home ∙ sym (lt-ltb 0 _ some)
   | inr none ↦ ap is_some (home_none L.chains 0 x (omega (arith, none))) ∙ sym (le-ltb 0 _ none)
 ]
+  where
+    by : (h : Option Chain) → is_some (member_of (link_by L x h)) ≡ is_some h
+    by None = refl
+    by (Some c) = refl
 
 module _ (p : Tables) (d : Chain) (s : Sound p) (u : Living (blocks_in p) d) where
   pub ends_head : (ends_in p.root (link_at p.links.now) d).head ≡ head_or 0 (chain_in p (number d))

@@ -1,5 +1,5 @@
 -- A chain is walked by next blocks. Assumes nothing.
-use Rattle.std.proofs.Common.{◌≡◌, ℕ, zero, suc, ◌<◌, ◌≤◌, true, cond, List, [], ◌∷◌, length, get_or, is_some, Some, None, Option, sym, refl, ap, ◌∙◌, subst, inl, inr, arith}
+use Rattle.std.proofs.Common.{◌≡◌, ℕ, zero, suc, ◌<◌, ◌≤◌, true, cond, List, [], ◌∷◌, length, get_or, Some, None, Option, sym, refl, ap, ◌∙◌, subst, inl, inr, arith}
 use mathlib.Core.HLevel.{×_prop}
 use native.Mathlib.Bridge.{le_prop}
 use Rattle.std.specs.Iterator.{YieldsFirstBy}
@@ -7,7 +7,7 @@ use Rattle.std.proofs.lemmas.Iterator.{YieldsList}
 use Rattle.std.proofs.lemmas.Iterator.Consumers.{YieldsList-from_first}
 use Rattle.chain.specs.declared.walk.Walk.{Walk}
 use Rattle.chain.specs.Coming.{coming}
-use Rattle.std.proofs.lemmas.Bool.{cases_eq, eq-eqb, ne_eqb, false≢true, lt-ltb, ltb-true}
+use Rattle.std.proofs.lemmas.Bool.{cases_eq, eq-eqb, ne_eqb, lt-ltb, ltb-true}
 use Rattle.std.proofs.lemmas.Bool.Decides.{nat_tests}
 use Rattle.chain.specs.declared.link.Index.{Index}
 use Rattle.chain.specs.declared.tables.Tables.{Tables}
@@ -22,14 +22,6 @@ use Rattle.chain.proofs.Counts.{occ_one, occ_two, len_one, chain_within}
 use Rattle.chain.proofs.Homes.{home_some, found_home}
 use Rattle.chain.proofs.Seen.{by_view, loose}
 use Rattle.chain.proofs.Cleared.{once_is, fits_is}
-
--- a number behind `found`
-pub found_number : (k : ℕ) (x : Index) → Some x ≡ found k → (k ≡ x.number) × (1 ≤ k)
-found_number zero x e = absurd (false≢true (ap is_some (sym e)))
-found_number (suc k) x e = (sym (ap (λ i. i.number) (inside x (record { number = suc k }) e)), omega arith)
-  where
-    inside : (a b : Index) → Some a ≡ Some b → a ≡ b
-    inside a b e = cc
 
 record Split (x : ℕ) (row : List ℕ) : Type 0 where
   pub behind : List ℕ

@@ -29,7 +29,7 @@ impl<'a> Chains<'a> {
         ensures count { self.new.tables.count ≡ self.old.tables.count }
         ensures later { drop self.old.tables.count self.new.tables.links.now ≡ drop self.old.tables.count self.old.tables.links.now }
     {
-        self.tables.unlink(x.number);
-        self.tables.clear(x.number);
+        self.tables.unlink(x);
+        self.tables.clear(x);
     }
 }

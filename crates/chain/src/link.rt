@@ -9,7 +9,7 @@ pub struct Index {
 }
 
 impl Index {
-    // The block of that number; 0 is no block.
+    // The block of that number; 0 is no block, and no error, so this is no `TryFrom`.
     pub fn new(number: u32) -> Option<Index>
         ensures { result ≡ found number }
     {
@@ -31,7 +31,7 @@ impl Index {
 pub const MEMBER_CHAINS: usize = 2;
 
 // Which of the chains of its members.
-#[derive(Clone, Copy)]
+#[derive(Clone, Copy, PartialEq, Eq)]
 pub enum Branch {
     First,
     Second,
@@ -43,14 +43,21 @@ impl Branch {
 }
 
 // A chain: that of the root, or one of the chains of a block's members.
-#[derive(Clone, Copy)]
+#[derive(Clone, Copy, PartialEq, Eq)]
 pub enum Chain {
     Root,
     Members { owner: Index, branch: Branch },
 }
 
+// A side of a block in its chain.
+#[derive(Clone, Copy, PartialEq, Eq)]
+pub enum Side {
+    Before,
+    Behind,
+}
+
 // The ends of a chain by number; 0 is no block.
-#[derive(Clone, Copy)]
+#[derive(Clone, Copy, PartialEq, Eq)]
 pub struct Ends {
     pub(crate) head: u32,
     pub(crate) tail: u32,
@@ -62,7 +69,7 @@ impl Ends {
 }
 
 // A block in a chain: its neighbours by number, 0 for none, its chain, and the ends of the chains of its own members.
-#[derive(Clone, Copy)]
+#[derive(Clone, Copy, PartialEq, Eq)]
 pub struct Member {
     pub(crate) previous: u32,
     pub(crate) next: u32,
@@ -72,7 +79,7 @@ pub struct Member {
 }
 
 // What a block is: free with the number of the next free block, 0 for none, or in a chain.
-#[derive(Clone, Copy)]
+#[derive(Clone, Copy, PartialEq, Eq)]
 pub enum Link {
     Free(u32),
     Used(Member),

@@ -1,24 +1,26 @@
 // What is read of a block or a chain, in constant time.
 ghost use Rattle.std.specs.Prelude.{◌≡◌};
-ghost use Rattle.chain.specs.Entry.{found, number};
+ghost use Rattle.chain.specs.Entry.{found, number, member_of};
 ghost use Rattle.chain.specs.Rows.{head_or, last_or};
 ghost use Rattle.chain.specs.Blocks.{Living, is_used, home_of, owner_of, next_in, prev_in, ends_by, link_of};
 ghost use Rattle.chain.specs.View.{blocks_of, chain_of};
 
 use crate::chains::Chains;
-use crate::link::{Chain, Ends, Index, Link};
+use crate::link::{Chain, Ends, Index, Link, Member};
 
 impl<'a> Chains<'a> {
-    // The link entry of block `x`; a number that names no block is free.
-    fn link(&self, x: Index) -> Link
-        ensures { result ≡ link_of (blocks_of self.now) x.number }
+    // What block `x` is in its chain; none where it is free, or is no block.
+    fn member(&self, x: Index) -> Option<Member>
+        ensures { result ≡ member_of (link_of (blocks_of self.now) x.number) }
     {
         let number = x.number;
         let count = self.tables.count;
         if number == 0 || number > count {
-            Link::Free(0)
-        } else {
-            self.tables.links[number as usize - 1]
+            return None;
+        }
+        match self.tables.links[number as usize - 1] {
+            Link::Used(member) => Some(member),
+            Link::Free(_) => None,
         }
     }
 
@@ -26,26 +28,23 @@ impl<'a> Chains<'a> {
     pub fn is_used(&self, x: Index) -> bool
         ensures { result ≡ is_used (blocks_of self.now) x.number }
     {
-        self.link(x).is_used()
+        self.member(x).is_some()
     }
 
     // The chain that block `x` is in; none where it is free.
     pub fn chain(&self, x: Index) -> Option<Chain>
         ensures { result ≡ home_of (blocks_of self.now) x.number }
     {
-        match self.link(x) {
-            Link::Used(member) => Some(member.chain),
-            Link::Free(_) => None,
-        }
+        Some(self.member(x)?.chain)
     }
 
     // The block whose member `x` is; none where it is free or in the root's chain.
     pub fn owner(&self, x: Index) -> Option<Index>
         ensures { result ≡ owner_of (home_of (blocks_of self.now) x.number) }
     {
-        match self.chain(x) {
-            Some(Chain::Members { owner, branch: _ }) => Some(owner),
-            _ => None,
+        match self.chain(x)? {
+            Chain::Members { owner, branch: _ } => Some(owner),
+            Chain::Root => None,
         }
     }
 
@@ -53,20 +52,14 @@ impl<'a> Chains<'a> {
     pub fn next(&self, x: Index) -> Option<Index>
         ensures { result ≡ found (next_in (blocks_of self.now) x.number) }
     {
-        match self.link(x) {
-            Link::Used(member) => Index::new(member.next),
-            Link::Free(_) => None,
-        }
+        Index::new(self.member(x)?.next)
     }
 
     // The block before `x` in its chain.
     pub fn previous(&self, x: Index) -> Option<Index>
         ensures { result ≡ found (prev_in (blocks_of self.now) x.number) }
     {
-        match self.link(x) {
-            Link::Used(member) => Index::new(member.previous),
-            Link::Free(_) => None,
-        }
+        Index::new(self.member(x)?.previous)
     }
 
     // The ends of a chain, which is the root's or whose owner is in use.

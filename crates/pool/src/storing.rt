@@ -1,5 +1,5 @@
 // Elements are created, deleted, read and replaced.
-ghost use Rattle.std.specs.Prelude.{◌≡◌, ℕ, ◌-◌, ◌≤◌, true, length, drop, slice_index_or, slice_set};
+ghost use Rattle.std.specs.Prelude.{◌≡◌, ℕ, ◌-◌, ◌<◌, ◌≤◌, true, length, drop, slice_index_or, slice_set};
 ghost use Rattle.chain.specs.Entry.{found, number};
 ghost use Rattle.chain.specs.Rows.{head_or, occ};
 ghost use Rattle.chain.specs.Blocks.{Living, is_used, created, deleted};
@@ -21,11 +21,9 @@ impl<'a, T> Pool<'a, T> {
         ensures count { self.new.chains.tables.count ≡ self.old.chains.tables.count }
         ensures later { drop self.old.chains.tables.count self.new.chains.tables.links.now ≡ drop self.old.chains.tables.count self.old.chains.tables.links.now }
     {
-        let created = self.chains.append(chain);
-        if let Some(x) = created {
-            self.elements[x.number() as usize - 1] = element;
-        }
-        created
+        let x = self.chains.append(chain)?;
+        self.elements[x.number() as usize - 1] = element;
+        Some(x)
     }
 
     // Deletes block `x` with its members: these go first, from head to tail, each in this same way, those of the first chain before those of the second.
@@ -41,6 +39,15 @@ impl<'a, T> Pool<'a, T> {
         self.chains.remove(x);
     }
 
+    // Where the element of block `x` stands, which is in use.
+    fn slot(&self, x: Index) -> usize
+        requires { is_used (blocks_of self.now.chains) x.number ≡ true }
+        ensures value { result ≡ x.number - 1 }
+        ensures within { result < length self.now.elements.now }
+    {
+        x.number() as usize - 1
+    }
+
     // The element of block `x`, which is in use.
     pub fn read(&self, x: Index) -> T
     where
@@ -48,9 +55,7 @@ impl<'a, T> Pool<'a, T> {
         requires { is_used (blocks_of self.now.chains) x.number ≡ true }
         ensures { (d : T) → result ≡ slice_index_or self.now.elements.now (x.number - 1) d }
     {
-        let elements = &*self.elements;
-        let at = x.number() as usize - 1;
-        elements[at]
+        self.elements[self.slot(x)]
     }
 
     // Puts another element into block `x`, which is in use.
@@ -61,7 +66,7 @@ impl<'a, T> Pool<'a, T> {
         ensures elements { self.new.elements.now ≡ slice_set self.old.elements.now (x.number - 1) element }
         ensures same { self.new.chains ≡ self.old.chains }
     {
-        let slot = x.number() as usize - 1;
+        let slot = self.slot(x);
         self.elements[slot] = element;
     }
 }

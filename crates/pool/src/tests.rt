@@ -28,10 +28,7 @@ const BLANK: Item = Item { kind: 0, value: 0 };
 
 // The number of an index; 0 is none.
 fn shown(x: Option<Index>) -> u32 {
-    match x {
-        Some(x) => x.number(),
-        None => 0,
-    }
+    x.map_or(0, |x| x.number())
 }
 
 // Creates a member of block `owner`, and gives its number; 0 where there is none.

@@ -8,22 +8,22 @@ use Rattle.chain.proofs.Moves.{top_within, member_within}
 use Rattle.chain.proofs.Cleared.{front_is, front_none, front_there, left_total, left_out, left_room, going_less, going_next}
 use Rattle.chain.proofs.tables.Tables.+clear.Goals as goal
 
-pub front_member-y-requires : goal.front_member-y-requires
-front_member-y-requires t c = let h = top_within _ c.loop-y.invariant.sure in let n = c.loop-y.invariant.count in record { from = c.requires.from; upto = omega (arith, c.requires.upto) }
+pub front_member-requires-clause-upto : goal.front_member-requires-clause-upto
+front_member-requires-clause-upto t c = let h = top_within _ c.loop-y.invariant.sure in let n = c.loop-y.invariant.count in omega (arith, c.requires.upto)
 
 pub unlink-requires : goal.unlink-requires
 unlink-requires t c =
     let p = c.loop-y.self in
     let g = c.loop-y.invariant in
-    record { loose = g.sure; member = front_there p c.args.x _ (front_is p c.args.x _ g.sure c.requires.from (omega (arith, g.count, c.requires.upto)) c.front_member-y.ensures c.if-y-eq0.false) }
+    record { loose = g.sure; member = front_there p c.args.x.number _ (front_is p c.args.x.number c.in-Some.y g.sure c.requires.from (omega (arith, g.count, c.requires.upto)) c.in-Some.ensures) }
 
 pub clear-requires : goal.clear-requires
 clear-requires t c =
     let p = c.loop-y.self in
     let p₁ = c.unlink.new.self in
-    let y = c.front_member-y.result in
+    let y = c.in-Some.y.number in
     let g = c.loop-y.invariant in
-    let there = front_there p c.args.x y (front_is p c.args.x y g.sure c.requires.from (omega (arith, g.count, c.requires.upto)) c.front_member-y.ensures c.if-y-eq0.false) in
+    let there = front_there p c.args.x.number y (front_is p c.args.x.number c.in-Some.y g.sure c.requires.from (omega (arith, g.count, c.requires.upto)) c.in-Some.ensures) in
     let w = member_within p y g.sure there in
     let e = c.unlink.ensures in
     (omega (arith, c.decreases, g.fewer, left_total p p₁ y g.sure there e.blocks e.count), (e.loose, (w.0.0, (omega (arith, w, e.count), (left_out p p₁ y g.sure there e.blocks e.count, left_room p p₁ y g.sure there e.blocks e.count)))))
@@ -31,36 +31,36 @@ clear-requires t c =
 pub loop-y-smaller : goal.loop-y-smaller
 loop-y-smaller t c =
     let p = c.loop-y.self in
-    let y = c.front_member-y.result in
+    let y = c.in-Some.y.number in
     let g = c.loop-y.invariant in
-    let f = front_is p c.args.x y g.sure c.requires.from (omega (arith, g.count, c.requires.upto)) c.front_member-y.ensures c.if-y-eq0.false in
+    let f = front_is p c.args.x.number c.in-Some.y g.sure c.requires.from (omega (arith, g.count, c.requires.upto)) c.in-Some.ensures in
     let u = c.unlink.ensures in
     let e = c.clear.ensures in
-    going_less c.args.self.now p c.unlink.new.self c.clear.new.self c.args.x y g c.requires.from (omega (arith, c.requires.out)) f u.blocks u.count u.later e.loose e.blocks e.counts e.size e.fewer e.shrinks e.parts e.others e.count e.later
+    going_less c.args.self.now p c.unlink.new.self c.clear.new.self c.args.x.number y g c.requires.from (omega (arith, c.requires.out)) f u.blocks u.count u.later e.loose e.blocks e.counts e.size e.fewer e.shrinks e.parts e.others e.count e.later
 
 pub loop-y-preserved : goal.loop-y-preserved
 loop-y-preserved t c =
     let p = c.loop-y.self in
-    let y = c.front_member-y.result in
+    let y = c.in-Some.y.number in
     let g = c.loop-y.invariant in
-    let f = front_is p c.args.x y g.sure c.requires.from (omega (arith, g.count, c.requires.upto)) c.front_member-y.ensures c.if-y-eq0.false in
+    let f = front_is p c.args.x.number c.in-Some.y g.sure c.requires.from (omega (arith, g.count, c.requires.upto)) c.in-Some.ensures in
     let u = c.unlink.ensures in
     let e = c.clear.ensures in
-    going_next c.args.self.now p c.unlink.new.self c.clear.new.self c.args.x y g c.requires.from (omega (arith, c.requires.out)) f u.blocks u.count u.later e.loose e.blocks e.counts e.size e.fewer e.shrinks e.parts e.others e.count e.later
+    going_next c.args.self.now p c.unlink.new.self c.clear.new.self c.args.x.number y g c.requires.from (omega (arith, c.requires.out)) f u.blocks u.count u.later e.loose e.blocks e.counts e.size e.fewer e.shrinks e.parts e.others e.count e.later
 
 pub push-requires : goal.push-requires
 push-requires t c =
     let p = c.loop-y.self in
     let g = c.loop-y.invariant in
-    let n = front_none p c.args.x g.sure c.requires.from (omega (arith, g.count, c.requires.upto)) (sym c.front_member-y.ensures ∙ c.if-y-eq0.true) in
-    record { loose = g.sure; from = c.requires.from; upto = omega (arith, g.count, c.requires.upto); out = g.counts c.args.x ∙ c.requires.out; room = omega (arith, g.size, g.count, c.requires.room); first = n.0; second = n.1 }
+    let n = front_none p c.args.x.number g.sure c.requires.from (omega (arith, g.count, c.requires.upto)) c.in_default.ensures in
+    record { loose = g.sure; from = c.requires.from; upto = omega (arith, g.count, c.requires.upto); out = g.counts c.args.x.number ∙ c.requires.out; room = omega (arith, g.size, g.count, c.requires.room); first = n.0; second = n.1 }
 
 pub returns : goal.returns
 returns t c =
     let p = c.loop-y.self in
-    let x = c.args.x in
+    let x = c.args.x.number in
     let g = c.loop-y.invariant in
-    let n = front_none p x g.sure c.requires.from (omega (arith, g.count, c.requires.upto)) (sym c.front_member-y.ensures ∙ c.if-y-eq0.true) in
+    let n = front_none p x g.sure c.requires.from (omega (arith, g.count, c.requires.upto)) c.in_default.ensures in
     let e = c.push.ensures in
     record {
       loose = e.loose;

@@ -8,7 +8,7 @@ abbrev pub decreases-clear : goal.decreases-clear
 decreases-clear l = total (chains_in l.self.now)
 
 abbrev pub invariant-loop-y : goal.invariant-loop-y
-invariant-loop-y l = Going l.initial.self l.self l.x
+invariant-loop-y l = Going l.initial.self l.self l.x.number
 
 abbrev pub decreases-loop-y : goal.decreases-loop-y
 decreases-loop-y l = total (chains_in l.self)

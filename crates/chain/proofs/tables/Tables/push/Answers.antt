@@ -13,7 +13,7 @@ overflow_add-self c = let h = c.requires.room in let e = spare_is _ c.requires.l
 pub returns : goal.returns
 returns c =
     let p = c.args.self.now in
-    let x = c.args.x in
+    let x = c.args.x.number in
     record {
       loose = stacked_loose p _ x c.requires.loose c.requires.from c.requires.upto c.requires.out c.requires.room c.requires.first c.requires.second c.set_free.ensures refl refl refl refl;
       blocks = stacked_blocks p _ x c.requires.loose c.requires.from c.requires.upto c.requires.out c.requires.room c.requires.first c.requires.second c.set_free.ensures refl refl refl refl;
