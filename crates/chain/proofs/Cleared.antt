@@ -11,7 +11,7 @@ use Rattle.chain.specs.declared.tables.Tables.{Tables}
 use Rattle.chain.specs.Entry.{found, front_of, first_of, second_of}
 use Rattle.chain.specs.Rows.{head_or, tick, occ, Row}
 use Rattle.chain.specs.Blocks.{Blocks, chain, occ_all, total, taken, without, each, cleared, removed}
-use Rattle.chain.specs.Tables.{Loose, Sound, blocks_in, chains_in, chain_in, free_in}
+use Rattle.chain.specs.Tables.{Spares, Loose, Sound, blocks_in, chains_in, chain_in, free_in}
 use Rattle.chain.proofs.Numbers.{ends_first, ends_second, found_number, found_none}
 use Rattle.chain.proofs.Keeps.{tick_same, occ-append}
 use Rattle.chain.proofs.Counts.{occ_one, occ_two, occ_set, total_set}
@@ -205,6 +205,9 @@ all_is p s i i1 il = by_sound p _ le_prop s (λ h. h.all i i1 il)
 pub full_is : (p : Tables) → Sound p → length (free_in p) + total (chains_in p) ≡ p.count
 full_is p s = by_sound p _ (ℕ_set _ _) s (λ h. h.full)
 
+pub spares_on : {p p₁ p₂ : Tables} → Spares p p₁ → Spares p₁ p₂ → Spares p p₂
+spares_on {p} {p₁} {p₂} a b = record { count = b.count ∙ a.count; later = ap (λ k. drop k p₂.links.now) (sym a.count) ∙ b.later ∙ ap (λ k. drop k p₁.links.now) a.count ∙ a.later }
+
 -- while the members of x go: q is what the tables were at first, and p what they are
 pub record Going (q p : Tables) (x : ℕ) : Type 0 where
   pub sure : Loose p
@@ -215,17 +218,16 @@ pub record Going (q p : Tables) (x : ℕ) : Type 0 where
   pub shrinks : (i : ℕ) → occ_all i (chains_in p) ≤ occ_all i (chains_in q)
   pub parts : (i d : ℕ) → occ i (chain_in p d) ≤ occ i (chain_in q d)
   pub others : (o : ℕ) → 1 ≤ o → (o ≡ x → ⊥) → occ_all o (chains_in q) ≡ 0 → (chain_in p (first_of o) ≡ chain_in q (first_of o)) × (chain_in p (second_of o) ≡ chain_in q (second_of o))
-  pub count : p.count ≡ q.count
-  pub later : drop q.count p.links.now ≡ drop q.count q.links.now
+  pub spared : Spares q p
 
 -- y, the front member of x, goes: p₁ is what the tables are without it, and p₂ when it is free
-module _ (q p p₁ p₂ : Tables) (x y : ℕ) (g : Going q p x) (x1 : 1 ≤ x) (x_out : occ_all x (chains_in q) ≡ 0) (f : Front p x y) (out : blocks_in p₁ ≡ taken (blocks_in p) y) (count₁ : p₁.count ≡ p.count) (later₁ : drop p.count p₁.links.now ≡ drop p.count p.links.now)
+module _ (q p p₁ p₂ : Tables) (x y : ℕ) (g : Going q p x) (x1 : 1 ≤ x) (x_out : occ_all x (chains_in q) ≡ 0) (f : Front p x y) (out : blocks_in p₁ ≡ taken (blocks_in p) y) (spared₁ : Spares p p₁)
     (sure₂ : Loose p₂) (gone₂ : (m : ℕ) → total (chains_in p₁) ≤ m → blocks_in p₂ ≡ cleared (removed m) (blocks_in p₁) y)
     (counts₂ : (i : ℕ) → occ i (free_in p₂) + occ_all i (chains_in p₂) ≡ tick i y + (occ i (free_in p₁) + occ_all i (chains_in p₁)))
     (size₂ : length (free_in p₂) + total (chains_in p₂) ≡ length (free_in p₁) + total (chains_in p₁) + 1)
     (fewer₂ : total (chains_in p₂) ≤ total (chains_in p₁)) (shrinks₂ : (i : ℕ) → occ_all i (chains_in p₂) ≤ occ_all i (chains_in p₁)) (parts₂ : (i d : ℕ) → occ i (chain_in p₂ d) ≤ occ i (chain_in p₁ d))
     (others₂ : (o : ℕ) → 1 ≤ o → (o ≡ y → ⊥) → occ_all o (chains_in p₁) ≡ 0 → (chain_in p₂ (first_of o) ≡ chain_in p₁ (first_of o)) × (chain_in p₂ (second_of o) ≡ chain_in p₁ (second_of o)))
-    (count₂ : p₂.count ≡ p₁.count) (later₂ : drop p₁.count p₂.links.now ≡ drop p₁.count p₁.links.now) where
+    (spared₂ : Spares p₁ p₂) where
   none_x : occ_all x (chains_in p) ≡ 0
   none_x = omega (arith, g.shrinks x, x_out)
 
@@ -233,18 +235,17 @@ module _ (q p p₁ p₂ : Tables) (x y : ℕ) (g : Going q p x) (x1 : 1 ≤ x) (
   some_y = front_there p x y f
 
   pub going_less : total (chains_in p₂) < total (chains_in p)
-  going_less = omega (arith, fewer₂, left_total p p₁ y g.sure some_y out count₁)
+  going_less = omega (arith, fewer₂, left_total p p₁ y g.sure some_y out spared₁.count)
 
   pub going_next : Going q p₂ x
   going_next = record {
     sure = sure₂;
-    gone = λ m h. turned p p₁ p₂ x y g.sure x1 f none_x out count₁ gone₂ others₂ m (omega (arith, h, g.fewer)) ∙ g.gone m h;
-    counts = λ i. omega (arith, counts₂ i, left_occ p p₁ y g.sure some_y out count₁ i, ap (occ i) (left_free p p₁ y g.sure some_y out count₁), g.counts i);
-    size = omega (arith, size₂, left_total p p₁ y g.sure some_y out count₁, ap length (left_free p p₁ y g.sure some_y out count₁), g.size);
+    gone = λ m h. turned p p₁ p₂ x y g.sure x1 f none_x out spared₁.count gone₂ others₂ m (omega (arith, h, g.fewer)) ∙ g.gone m h;
+    counts = λ i. omega (arith, counts₂ i, left_occ p p₁ y g.sure some_y out spared₁.count i, ap (occ i) (left_free p p₁ y g.sure some_y out spared₁.count), g.counts i);
+    size = omega (arith, size₂, left_total p p₁ y g.sure some_y out spared₁.count, ap length (left_free p p₁ y g.sure some_y out spared₁.count), g.size);
     fewer = omega (arith, going_less, g.fewer);
-    shrinks = λ i. omega (arith, shrinks₂ i, left_occ p p₁ y g.sure some_y out count₁ i, g.shrinks i);
-    parts = λ i d. omega (arith, parts₂ i d, left_less p p₁ y g.sure some_y out count₁ i d, g.parts i d);
-    others = λ o o1 ne none. let a = others_stay p p₁ p₂ x y g.sure x1 f none_x out count₁ gone₂ others₂ o o1 ne (omega (arith, g.shrinks o, none)) in let b = g.others o o1 ne none in (a.0 ∙ b.0, a.1 ∙ b.1);
-    count = count₂ ∙ count₁ ∙ g.count;
-    later = ap (λ n. drop n p₂.links.now) (sym (count₁ ∙ g.count)) ∙ later₂ ∙ ap (λ n. drop n p₁.links.now) count₁ ∙ later₁ ∙ ap (λ n. drop n p.links.now) g.count ∙ g.later;
+    shrinks = λ i. omega (arith, shrinks₂ i, left_occ p p₁ y g.sure some_y out spared₁.count i, g.shrinks i);
+    parts = λ i d. omega (arith, parts₂ i d, left_less p p₁ y g.sure some_y out spared₁.count i d, g.parts i d);
+    others = λ o o1 ne none. let a = others_stay p p₁ p₂ x y g.sure x1 f none_x out spared₁.count gone₂ others₂ o o1 ne (omega (arith, g.shrinks o, none)) in let b = g.others o o1 ne none in (a.0 ∙ b.0, a.1 ∙ b.1);
+    spared = spares_on (spares_on g.spared spared₁) spared₂;
   }

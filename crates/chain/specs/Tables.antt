@@ -1,5 +1,5 @@
 -- What the tables of chains stand for. Assumes nothing.
-use Rattle.std.specs.Prelude.{◌≡◌, ℕ, zero, suc, ◌+◌, ◌^◌, ◌<◌, ◌≤◌, cond, List, [], ◌∷◌, map, length, ◌==◌, slice_index_or}
+use Rattle.std.specs.Prelude.{◌≡◌, ℕ, zero, suc, ◌+◌, ◌^◌, ◌<◌, ◌≤◌, cond, List, [], ◌∷◌, map, length, drop, ◌==◌, slice_index_or}
 use Rattle.chain.specs.declared.link.Link.{Link}
 use Rattle.chain.specs.declared.link.Ends.{Ends}
 use Rattle.chain.specs.declared.tables.Tables.{Tables}
@@ -49,3 +49,8 @@ Loose p = ∥ ((L : Blocks) × Linked p L) ∥₁
 -- the tables are sound: each block is free or in exactly one chain, and links, ends and owners are right
 abbrev pub Sound : Tables → Type 0
 Sound p = ∥ ((L : Blocks) × Holds p L) ∥₁
+
+-- p' has as many blocks as p, and the links behind them are as they were
+pub record Spares (p p' : Tables) : Type 0 where
+  pub count : p'.count ≡ p.count
+  pub later : drop p.count p'.links.now ≡ drop p.count p.links.now

@@ -1,8 +1,9 @@
 // A block is appended to a chain, or deleted with its members.
-ghost use Rattle.std.specs.Prelude.{◌≡◌, ℕ, ◌≤◌, true, drop};
+ghost use Rattle.std.specs.Prelude.{◌≡◌, ℕ, ◌≤◌, true};
 ghost use Rattle.chain.specs.Entry.{found, number};
 ghost use Rattle.chain.specs.Rows.{occ, head_or};
 ghost use Rattle.chain.specs.Blocks.{Living, is_used, created, deleted};
+ghost use Rattle.chain.specs.Tables.{Spares};
 ghost use Rattle.chain.specs.View.{blocks_of, chain_of, free_of};
 
 use crate::chains::Chains;
@@ -14,8 +15,7 @@ impl<'a> Chains<'a> {
         requires { Living (blocks_of self.old) chain }
         ensures answer { result ≡ found (head_or 0 (free_of self.old)) }
         ensures blocks { blocks_of self.new ≡ created (blocks_of self.old) (number chain) }
-        ensures count { self.new.tables.count ≡ self.old.tables.count }
-        ensures later { drop self.old.tables.count self.new.tables.links.now ≡ drop self.old.tables.count self.old.tables.links.now }
+        ensures spared { Spares self.old.tables self.new.tables }
     {
         self.tables.append(chain)
     }
@@ -26,8 +26,7 @@ impl<'a> Chains<'a> {
         requires { is_used (blocks_of self.old) x.number ≡ true }
         ensures blocks { blocks_of self.new ≡ deleted (blocks_of self.old) x.number }
         ensures parts { (i d : ℕ) → occ i (chain_of self.new d) ≤ occ i (chain_of self.old d) }
-        ensures count { self.new.tables.count ≡ self.old.tables.count }
-        ensures later { drop self.old.tables.count self.new.tables.links.now ≡ drop self.old.tables.count self.old.tables.links.now }
+        ensures spared { Spares self.old.tables self.new.tables }
     {
         self.tables.unlink(x);
         self.tables.clear(x);

@@ -1,6 +1,7 @@
 // Chains over lent links.
 ghost use Rattle.std.specs.Prelude.{◌≡◌, min, length, drop};
 ghost use Rattle.chain.specs.Blocks.{opened};
+ghost use Rattle.chain.specs.Tables.{Spares};
 ghost use Rattle.chain.specs.View.{blocks_of};
 
 use crate::chains::Chains;
@@ -30,8 +31,7 @@ impl<'a> Chains<'a> {
     // Makes every block free again, as after opening.
     pub fn reopen(&mut self)
         ensures blocks { blocks_of self.new ≡ opened self.old.tables.count }
-        ensures count { self.new.tables.count ≡ self.old.tables.count }
-        ensures later { drop self.old.tables.count self.new.tables.links.now ≡ drop self.old.tables.count self.old.tables.links.now }
+        ensures spared { Spares self.old.tables self.new.tables }
     {
         self.tables.reset();
     }

@@ -1,9 +1,9 @@
 // A block goes from the free stack behind a chain, out of its chain, and back to the front of the free stack.
-ghost use Rattle.std.specs.Prelude.{◌≡◌, ◌+◌, ◌-◌, ◌≤◌, [], length, drop};
+ghost use Rattle.std.specs.Prelude.{◌≡◌, ◌+◌, ◌-◌, ◌≤◌, [], length};
 ghost use Rattle.chain.specs.Entry.{found, number, first_of, second_of, link_at};
 ghost use Rattle.chain.specs.Rows.{occ, head_or};
 ghost use Rattle.chain.specs.Blocks.{occ_all, total, Living, created, taken, pushed};
-ghost use Rattle.chain.specs.Tables.{Loose, Sound, blocks_in, chains_in, chain_in, free_in};
+ghost use Rattle.chain.specs.Tables.{Loose, Sound, Spares, blocks_in, chains_in, chain_in, free_in};
 
 use crate::entry::{join, set_beside, set_free};
 use crate::link::{Chain, Ends, Index, Link, Member, Side};
@@ -32,8 +32,7 @@ impl<'a> Tables<'a> {
         ensures sound { Sound self.new }
         ensures answer { result ≡ found (head_or 0 (free_in self.old)) }
         ensures blocks { blocks_in self.new ≡ created (blocks_in self.old) (number chain) }
-        ensures count { self.new.count ≡ self.old.count }
-        ensures later { drop self.old.count self.new.links.now ≡ drop self.old.count self.old.links.now }
+        ensures spared { Spares self.old self.new }
     {
         let x = Index::new(self.free)?;
         let ends = self.ends_of(chain);
@@ -56,8 +55,7 @@ impl<'a> Tables<'a> {
         requires member { 1 ≤ occ_all x.number (chains_in self.old) }
         ensures loose { Loose self.new }
         ensures blocks { blocks_in self.new ≡ taken (blocks_in self.old) x.number }
-        ensures count { self.new.count ≡ self.old.count }
-        ensures later { drop self.old.count self.new.links.now ≡ drop self.old.count self.old.links.now }
+        ensures spared { Spares self.old self.new }
     {
         let link = self.links[x.number as usize - 1];
         if let Link::Used(member) = link {
@@ -78,8 +76,7 @@ impl<'a> Tables<'a> {
         requires second { chain_in self.old (second_of x.number) ≡ [] }
         ensures loose { Loose self.new }
         ensures blocks { blocks_in self.new ≡ pushed (blocks_in self.old) x.number }
-        ensures count { self.new.count ≡ self.old.count }
-        ensures later { drop self.old.count self.new.links.now ≡ drop self.old.count self.old.links.now }
+        ensures spared { Spares self.old self.new }
     {
         let front = self.free;
         set_free(self.links, x.number, front);

@@ -2,7 +2,7 @@
 ghost use Rattle.std.specs.Prelude.{◌≡◌, ℕ, ◌<◌, ◌≤◌, min, length, drop, slice_index_or};
 ghost use Rattle.chain.specs.Entry.{nowhere};
 ghost use Rattle.chain.specs.Blocks.{opened, threaded};
-ghost use Rattle.chain.specs.Tables.{Sound, blocks_in};
+ghost use Rattle.chain.specs.Tables.{Sound, Spares, blocks_in};
 
 use crate::link::{Ends, Link};
 use crate::tables::Tables;
@@ -32,8 +32,7 @@ impl<'a> Tables<'a> {
         requires { self.old.count ≤ length self.old.links.now }
         ensures sound { Sound self.new }
         ensures blocks { blocks_in self.new ≡ opened self.old.count }
-        ensures count { self.new.count ≡ self.old.count }
-        ensures later { drop self.old.count self.new.links.now ≡ drop self.old.count self.old.links.now }
+        ensures spared { Spares self.old self.new }
         ensures len { length self.new.links.now ≡ length self.old.links.now }
     {
         let count = self.count;

@@ -1,9 +1,9 @@
 // A block goes to the free stack after all its members.
-ghost use Rattle.std.specs.Prelude.{◌≡◌, ℕ, ◌+◌, ◌≤◌, length, drop, ◌≢◌};
+ghost use Rattle.std.specs.Prelude.{◌≡◌, ℕ, ◌+◌, ◌≤◌, length, ◌≢◌};
 ghost use Rattle.chain.specs.Entry.{found, link_at, front_of, first_of, second_of};
 ghost use Rattle.chain.specs.Rows.{occ, tick};
 ghost use Rattle.chain.specs.Blocks.{occ_all, total, cleared, removed};
-ghost use Rattle.chain.specs.Tables.{Loose, blocks_in, chains_in, chain_in, free_in};
+ghost use Rattle.chain.specs.Tables.{Loose, Spares, blocks_in, chains_in, chain_in, free_in};
 
 use crate::link::{Branch, Index};
 use crate::tables::Tables;
@@ -35,8 +35,7 @@ impl<'a> Tables<'a> {
         ensures shrinks { (i : ℕ) → occ_all i (chains_in self.new) ≤ occ_all i (chains_in self.old) }
         ensures parts { (i d : ℕ) → occ i (chain_in self.new d) ≤ occ i (chain_in self.old d) }
         ensures others { (o : ℕ) → 1 ≤ o → (o ≢ x.number) → occ_all o (chains_in self.old) ≡ 0 → (chain_in self.new (first_of o) ≡ chain_in self.old (first_of o)) × (chain_in self.new (second_of o) ≡ chain_in self.old (second_of o)) }
-        ensures count { self.new.count ≡ self.old.count }
-        ensures later { drop self.old.count self.new.links.now ≡ drop self.old.count self.old.links.now }
+        ensures spared { Spares self.old self.new }
     {
         while let Some(y) = self.front_member(x) {
             self.unlink(y);

@@ -1,6 +1,7 @@
 // A pool of blocks for any sort of element: chains of blocks, and a lent table with the element of each block.
 ghost use Rattle.std.specs.Prelude.{◌≡◌, ℕ, ◌≤◌, min, length, drop};
 ghost use Rattle.chain.specs.Blocks.{opened};
+ghost use Rattle.chain.specs.Tables.{Spares};
 ghost use Rattle.chain.specs.View.{blocks_of};
 ghost use Rattle.pool.specs.Elements.{filled};
 
@@ -42,10 +43,9 @@ impl<'a, T> Pool<'a, T> {
     pub fn reopen(&mut self, blank: T)
     where
         T: Copy,
-        ensures count { self.new.chains.tables.count ≡ self.old.chains.tables.count }
         ensures blocks { blocks_of self.new.chains ≡ opened self.old.chains.tables.count }
         ensures elements { self.new.elements.now ≡ filled self.old.chains.tables.count blank self.old.elements.now }
-        ensures later { drop self.old.chains.tables.count self.new.chains.tables.links.now ≡ drop self.old.chains.tables.count self.old.chains.tables.links.now }
+        ensures spared { Spares self.old.chains.tables self.new.chains.tables }
     {
         self.chains.reopen();
         let count = self.chains.count();

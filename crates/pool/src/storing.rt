@@ -1,8 +1,9 @@
 // Elements are created, deleted, read and replaced.
-ghost use Rattle.std.specs.Prelude.{◌≡◌, ℕ, ◌-◌, ◌<◌, ◌≤◌, true, length, drop, slice_index_or, slice_set};
+ghost use Rattle.std.specs.Prelude.{◌≡◌, ℕ, ◌-◌, ◌<◌, ◌≤◌, true, length, slice_index_or, slice_set};
 ghost use Rattle.chain.specs.Entry.{found, number};
 ghost use Rattle.chain.specs.Rows.{head_or, occ};
 ghost use Rattle.chain.specs.Blocks.{Living, is_used, created, deleted};
+ghost use Rattle.chain.specs.Tables.{Spares};
 ghost use Rattle.chain.specs.View.{blocks_of, chain_of, free_of};
 ghost use Rattle.pool.specs.Elements.{stored};
 
@@ -18,8 +19,7 @@ impl<'a, T> Pool<'a, T> {
         ensures answer { result ≡ found (head_or 0 (free_of self.old.chains)) }
         ensures blocks { blocks_of self.new.chains ≡ created (blocks_of self.old.chains) (number chain) }
         ensures elements { self.new.elements.now ≡ stored (head_or 0 (free_of self.old.chains)) element self.old.elements.now }
-        ensures count { self.new.chains.tables.count ≡ self.old.chains.tables.count }
-        ensures later { drop self.old.chains.tables.count self.new.chains.tables.links.now ≡ drop self.old.chains.tables.count self.old.chains.tables.links.now }
+        ensures spared { Spares self.old.chains.tables self.new.chains.tables }
     {
         let x = self.chains.append(chain)?;
         self.elements[x.number() as usize - 1] = element;
@@ -33,8 +33,7 @@ impl<'a, T> Pool<'a, T> {
         ensures blocks { blocks_of self.new.chains ≡ deleted (blocks_of self.old.chains) x.number }
         ensures parts { (i d : ℕ) → occ i (chain_of self.new.chains d) ≤ occ i (chain_of self.old.chains d) }
         ensures elements { self.new.elements.now ≡ self.old.elements.now }
-        ensures count { self.new.chains.tables.count ≡ self.old.chains.tables.count }
-        ensures later { drop self.old.chains.tables.count self.new.chains.tables.links.now ≡ drop self.old.chains.tables.count self.old.chains.tables.links.now }
+        ensures spared { Spares self.old.chains.tables self.new.chains.tables }
     {
         self.chains.remove(x);
     }

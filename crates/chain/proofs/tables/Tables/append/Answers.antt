@@ -63,6 +63,5 @@ returns c =
       sound = put_sound p p' d s c.requires.living k.1 e c.ends_of-ends.ensures links_is root_is free_is count_is spare_is;
       answer = sym c.in_ok-x.was ∙ c.new.ensures ∙ ap found (free_head p (loose p s));
       blocks = put_blocks p p' d s c.requires.living k.1 e c.ends_of-ends.ensures links_is root_is free_is count_is spare_is;
-      count = count_is;
-      later = put_later p p' d s c.requires.living k.1 e c.ends_of-ends.ensures links_is root_is free_is count_is spare_is;
+      spared = record { count = count_is; later = put_later p p' d s c.requires.living k.1 e c.ends_of-ends.ensures links_is root_is free_is count_is spare_is };
     }

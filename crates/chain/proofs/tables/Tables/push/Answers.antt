@@ -17,6 +17,5 @@ returns c =
     record {
       loose = stacked_loose p _ x c.requires.loose c.requires.from c.requires.upto c.requires.out c.requires.room c.requires.first c.requires.second c.set_free.ensures refl refl refl refl;
       blocks = stacked_blocks p _ x c.requires.loose c.requires.from c.requires.upto c.requires.out c.requires.room c.requires.first c.requires.second c.set_free.ensures refl refl refl refl;
-      count = refl;
-      later = stacked_later p.links.now c.set_free.new.links p.count x _ c.requires.from c.requires.upto c.set_free.ensures;
+      spared = record { count = refl; later = stacked_later p.links.now c.set_free.new.links p.count x _ c.requires.from c.requires.upto c.set_free.ensures };
     }

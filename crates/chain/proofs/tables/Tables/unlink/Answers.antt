@@ -36,8 +36,7 @@ returns-in-Used c =
     record {
       loose = cut_loose p p' c.args.x.number c.requires.loose c.requires.member m c.in-Used.is _ _ e_is c.without.ensures links_is c.set_ends.ensures.root c.set_ends.ensures.free c.set_ends.ensures.count c.set_ends.ensures.spare;
       blocks = cut_blocks p p' c.args.x.number c.requires.loose c.requires.member m c.in-Used.is _ _ e_is c.without.ensures links_is c.set_ends.ensures.root c.set_ends.ensures.free c.set_ends.ensures.count c.set_ends.ensures.spare;
-      count = c.set_ends.ensures.count;
-      later = cut_later p p' c.args.x.number c.requires.loose c.requires.member m c.in-Used.is _ _ e_is c.without.ensures links_is c.set_ends.ensures.root c.set_ends.ensures.free c.set_ends.ensures.count c.set_ends.ensures.spare;
+      spared = record { count = c.set_ends.ensures.count; later = cut_later p p' c.args.x.number c.requires.loose c.requires.member m c.in-Used.is _ _ e_is c.without.ensures links_is c.set_ends.ensures.root c.set_ends.ensures.free c.set_ends.ensures.count c.set_ends.ensures.spare };
     }
 
 pub returns-in_default : goal.returns-in_default
