@@ -1,11 +1,12 @@
 -- Chains and their numbers. Assumes nothing.
-use Rattle.std.proofs.Common.{◌≡◌, ℕ, zero, suc, ◌+◌, ◌≤◌, Some, None, Option, refl, ap, ◌∙◌, arith}
+use Rattle.std.proofs.Common.{◌≡◌, ℕ, zero, suc, ◌+◌, ◌≤◌, is_some, Some, None, Option, sym, refl, ap, ◌∙◌, arith}
+use Rattle.std.proofs.lemmas.Bool.{false≢true}
 use Rattle.chain.specs.declared.link.Index.{Index}
 use Rattle.chain.specs.declared.link.Branch.TheVariants.{First, Second}
 use Rattle.chain.specs.declared.link.Chain.{Chain}
 use Rattle.chain.specs.declared.link.Chain.TheVariants.{Root, Members}
 use Rattle.chain.specs.declared.link.Ends.{Ends}
-use Rattle.chain.specs.Entry.{Entry, first_of, second_of, number, after, chain_at, Within, ends_in, ends_at}
+use Rattle.chain.specs.Entry.{Entry, found, first_of, second_of, number, after, chain_at, Within, ends_in, ends_at}
 
 -- the owner is a block
 abbrev pub Owned : Chain → Type 0
@@ -111,3 +112,15 @@ code_same (Some (Members i Second)) None e = absurd (omega (arith, e))
 code_same (Some (Members i Second)) (Some Root) e = absurd (omega (arith, e))
 code_same (Some (Members i Second)) (Some (Members j First)) e = absurd (omega (arith, e))
 code_same (Some (Members i Second)) (Some (Members j Second)) e = ap (λ k. Some (Members k Second)) (same_index i j (omega (arith, e)))
+
+-- a number behind `found`
+pub found_number : (k : ℕ) (x : Index) → Some x ≡ found k → (k ≡ x.number) × (1 ≤ k)
+found_number zero x e = absurd (false≢true (ap is_some (sym e)))
+found_number (suc k) x e = (sym (ap (λ i. i.number) (inside x (record { number = suc k }) e)), omega arith)
+  where
+    inside : (a b : Index) → Some a ≡ Some b → a ≡ b
+    inside a b e = cc
+
+pub found_none : (k : ℕ) → None ≡ found k → k ≡ 0
+found_none zero e = refl
+found_none (suc k) e = absurd (false≢true (ap is_some e))

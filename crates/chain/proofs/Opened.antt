@@ -1,7 +1,6 @@
 -- The tables as they are opened. Assumes nothing.
-use Rattle.std.proofs.Common.{◌≡◌, ℕ, zero, suc, ◌+◌, ◌-◌, ◌^◌, ◌<◌, ◌≤◌, min, cond, List, [], length, get_or, set, replicate, sym, refl, ap, ◌∙◌, subst, arith, below_more}
+use Rattle.std.proofs.Common.{◌≡◌, ℕ, zero, suc, ◌+◌, ◌-◌, ◌^◌, ◌<◌, ◌≤◌, min, cond, List, [], length, get_or, replicate, sym, refl, ap, ◌∙◌, subst, arith}
 use lib.ListN.{length-replicate}
-use Rattle.std.proofs.lemmas.List.{get_or-set_same, get_or-set_other}
 use Rattle.std.proofs.lemmas.Bool.{lt-ltb, le-ltb}
 use Rattle.std.proofs.lemmas.Bool.Decides.{nat_tests}
 use Rattle.chain.specs.declared.link.Link.{Link}
@@ -12,16 +11,11 @@ use Rattle.chain.specs.declared.link.Chain.TheVariants.{Root, Members}
 use Rattle.chain.specs.Rows.{head_or, occ}
 use Rattle.chain.specs.Blocks.{occ_all, total, run, threaded, opened}
 use Rattle.chain.specs.Kept.{Kept, Chained, Stack}
-use Rattle.chain.specs.View.{Holds, Sound, blocks_of}
-use Rattle.chain.specs.declared.chains.Chains.{Chains}
+use Rattle.chain.specs.Tables.{Holds, Sound, blocks_in}
+use Rattle.chain.specs.declared.tables.Tables.{Tables}
 use Rattle.chain.proofs.Numbers.{at_owned, number_at, number_within}
 use Rattle.chain.proofs.Seen.{seen, length_run}
 use Rattle.chain.proofs.Counts.{stack_within}
-
--- one more element written of a list that is made from a function of the place
-pub below_set : {X : Type 0} (xs : List X) (i : ℕ) (y d : X) (F : ℕ → X) → i < length xs → ((k : ℕ) → k < i → get_or xs k d ≡ F k) → y ≡ F i → (k : ℕ) → k < i + 1 → get_or (set xs i y) k d ≡ F k
-below_set xs i y d F lt below e =
-    below_more (λ k. get_or (set xs i y) k d ≡ F k) i (λ k h. get_or-set_other xs i k y d (omega arith) ∙ below k h) (get_or-set_same xs i y d lt ∙ e)
 
 occ_none : (i a m : ℕ) → i < a → occ i (run a m) ≡ 0
 occ_none i a zero h = refl
@@ -86,7 +80,7 @@ opened_keeps t n top front is = record {
     in_run i h = let w = stack_within (link_at t) n (run 1 n) (stack_run t n front 1 n (omega arith) (omega arith)) i h in omega arith
 
 -- tables that were threaded stand for free blocks only
-module _ (p : Chains) (front : (k : ℕ) → k < p.count → get_or p.links.now k nowhere ≡ threaded p.count k) (top : p.free ≡ min p.count 1) (root : p.root ≡ no_ends) (spare : p.spare ≡ p.count) (room : p.count ≤ length p.links.now) (small : p.count < 2 ^ 32) where
+module _ (p : Tables) (front : (k : ℕ) → k < p.count → get_or p.links.now k nowhere ≡ threaded p.count k) (top : p.free ≡ min p.count 1) (root : p.root ≡ no_ends) (spare : p.spare ≡ p.count) (room : p.count ≤ length p.links.now) (small : p.count < 2 ^ 32) where
   whole : Holds p (opened p.count)
   whole = record {
     linked = record { small = small; room = room; spare = spare ∙ sym (length_run 1 p.count); kept = subst (λ r. Kept (link_at p.links.now) (ends_at r (link_at p.links.now)) p.free p.count (opened p.count)) (sym root) (opened_keeps p.links.now p.count p.free front top) };
@@ -97,5 +91,5 @@ module _ (p : Chains) (front : (k : ℕ) → k < p.count → get_or p.links.now 
   pub opened_sound : Sound p
   opened_sound = ∣ (opened p.count, whole) ∣₁
 
-  pub opened_blocks : blocks_of p ≡ opened p.count
+  pub opened_blocks : blocks_in p ≡ opened p.count
   opened_blocks = seen p (opened p.count) whole.linked

@@ -4,12 +4,12 @@ use mathlib.Core.Logic.{∥∥₁_elim, ∥∥₁_map}
 use Rattle.std.proofs.lemmas.List.{ext_get_or, length-map, get_or-map}
 use Rattle.std.proofs.lemmas.Bool.{ne_eqb}
 use Rattle.chain.specs.declared.link.Ends.{Ends}
-use Rattle.chain.specs.declared.chains.Chains.{Chains}
+use Rattle.chain.specs.declared.tables.Tables.{Tables}
 use Rattle.chain.specs.Rows.{head_or, Row}
 use Rattle.chain.specs.Entry.{Entry, link_at, ends_at}
 use Rattle.chain.specs.Blocks.{Blocks, chain, run}
 use Rattle.chain.specs.Kept.{Kept, Stack}
-use Rattle.chain.specs.View.{follow, blocks, Linked, Holds, Loose, Sound, blocks_of}
+use Rattle.chain.specs.Tables.{follow, blocks, Linked, Holds, Loose, Sound, blocks_in}
 use Rattle.chain.specs.declared.link.Link.{Link}
 use Rattle.chain.proofs.Counts.{len_one}
 
@@ -70,23 +70,23 @@ module _ (t : List Link) (root : Ends) (top n : ℕ) (L : Blocks) (k : Kept (lin
   pub blocks_seen : blocks t root top n ≡ L
   blocks_seen = λ i. record { chains = chains_seen i; free = free_seen i }
 
-pub seen : (p : Chains) (L : Blocks) → Linked p L → blocks_of p ≡ L
-unfolding blocks_of
+pub seen : (p : Tables) (L : Blocks) → Linked p L → blocks_in p ≡ L
+unfolding blocks_in
 seen p L h = blocks_seen p.links.now p.root p.free p.count L h.kept
 
 -- the tables agree with what is read off them
-pub linked_seen : (p : Chains) (L : Blocks) → Linked p L → Linked p (blocks_of p)
+pub linked_seen : (p : Tables) (L : Blocks) → Linked p L → Linked p (blocks_in p)
 linked_seen p L h = subst (λ z. Linked p z) (sym (seen p L h)) h
 
-pub holds_seen : (p : Chains) (L : Blocks) → Holds p L → Holds p (blocks_of p)
+pub holds_seen : (p : Tables) (L : Blocks) → Holds p L → Holds p (blocks_in p)
 holds_seen p L h = subst (λ z. Holds p z) (sym (seen p L h.linked)) h
 
-pub loose : (p : Chains) → Sound p → Loose p
+pub loose : (p : Tables) → Sound p → Loose p
 loose p s = ∥∥₁_map s (λ k. (k.0, k.1.linked))
 
 -- a fact that has one proof at most follows from what is read off
-pub by_view : (p : Chains) (P : Type 0) → ((a b : P) → a ≡ b) → Loose p → (Linked p (blocks_of p) → P) → P
+pub by_view : (p : Tables) (P : Type 0) → ((a b : P) → a ≡ b) → Loose p → (Linked p (blocks_in p) → P) → P
 by_view p P prop s then = ∥∥₁_elim s prop (λ k. then (linked_seen p k.0 k.1))
 
-pub by_sound : (p : Chains) (P : Type 0) → ((a b : P) → a ≡ b) → Sound p → (Holds p (blocks_of p) → P) → P
+pub by_sound : (p : Tables) (P : Type 0) → ((a b : P) → a ≡ b) → Sound p → (Holds p (blocks_in p) → P) → P
 by_sound p P prop s then = ∥∥₁_elim s prop (λ k. then (holds_seen p k.0 k.1))

@@ -7,11 +7,11 @@ use Rattle.chain.specs.declared.link.Ends.{Ends}
 use Rattle.chain.specs.declared.link.Member.{Member}
 use Rattle.chain.specs.declared.link.Link.{Link}
 use Rattle.chain.specs.declared.link.Link.TheVariants.{Free, Used}
-use Rattle.chain.specs.declared.chains.Chains.{Chains}
+use Rattle.chain.specs.declared.tables.Tables.{Tables}
 use Rattle.chain.specs.Rows.{occ}
 use Rattle.chain.specs.Entry.{first_of, second_of, entry, nowhere, link_at, ends_in, ends_at, number, Within, no_ends, with_next, with_previous, changed, hung, root_with, ends_with, ends_without}
 use Rattle.chain.specs.Blocks.{created, taken, pushed, Living, occ_all, total}
-use Rattle.chain.specs.View.{Loose, Sound, blocks_of, chains_of, chain_of, free_of}
+use Rattle.chain.specs.Tables.{Loose, Sound, blocks_in, chains_in, chain_in, free_in}
 use Rattle.chain.proofs.Numbers.{within_more, within_owned}
 use Rattle.chain.proofs.Seen.{loose}
 use Rattle.chain.proofs.Added.{Appended}
@@ -23,7 +23,7 @@ use Rattle.chain.proofs.Moves.{f_of, top_within, may_within, may_busy, may_apart
 abbrev pub put_behind : List Link → Chain → ℕ → Ends → List Link
 put_behind t d x e = hung (changed (set t (x - 1) (Used (record { previous = e.tail; next = 0; chain = d; first = no_ends; second = no_ends }))) e.tail (with_next x)) d (ends_with e x)
 
-module _ (p p' : Chains) (d : Chain) (s : Sound p) (u : Living (blocks_of p) d) (some : 0 < p.free) (e : Ends) (e_is : e ≡ ends_in p.root (link_at p.links.now) d)
+module _ (p p' : Tables) (d : Chain) (s : Sound p) (u : Living (blocks_in p) d) (some : 0 < p.free) (e : Ends) (e_is : e ≡ ends_in p.root (link_at p.links.now) d)
     (links_is : p'.links.now ≡ put_behind p.links.now d p.free e) (root_is : p'.root ≡ root_with p.root d (ends_with e p.free))
     (free_is : p'.free ≡ (link_at p.links.now p.free).next) (count_is : p'.count ≡ p.count) (spare_is : p'.spare ≡ p.spare - 1) where
   l : Loose p
@@ -55,7 +55,7 @@ module _ (p p' : Chains) (d : Chain) (s : Sound p) (u : Living (blocks_of p) d) 
   pub put_sound : Sound p'
   put_sound = append_sound p p' d s u some put free_is count_is spare_is long
 
-  pub put_blocks : blocks_of p' ≡ created (blocks_of p) (number d)
+  pub put_blocks : blocks_in p' ≡ created (blocks_in p) (number d)
   put_blocks = append_blocks p p' d s u some put free_is count_is spare_is long
 
   pub put_later : drop p.count p'.links.now ≡ drop p.count p.links.now
@@ -65,7 +65,7 @@ module _ (p p' : Chains) (d : Chain) (s : Sound p) (u : Living (blocks_of p) d) 
 abbrev pub taken_out : List Link → Chain → ℕ → ℕ → Ends → List Link
 taken_out t d previous next e = hung (changed (changed t previous (with_next next)) next (with_previous previous)) d e
 
-module _ (p p' : Chains) (x : ℕ) (s : Loose p) (member : 1 ≤ occ_all x (chains_of p)) (m : Member) (is : get_or p.links.now (x - 1) nowhere ≡ Used m) (e e' : Ends)
+module _ (p p' : Tables) (x : ℕ) (s : Loose p) (member : 1 ≤ occ_all x (chains_in p)) (m : Member) (is : get_or p.links.now (x - 1) nowhere ≡ Used m) (e e' : Ends)
     (e_is : e ≡ ends_in p.root (link_at (changed (changed p.links.now m.previous (with_next m.next)) m.next (with_previous m.previous))) m.chain) (e'_is : e' ≡ ends_without e m.previous m.next)
     (links_is : p'.links.now ≡ taken_out p.links.now m.chain m.previous m.next e') (root_is : p'.root ≡ root_with p.root m.chain e')
     (free_is : p'.free ≡ p.free) (count_is : p'.count ≡ p.count) (spare_is : p'.spare ≡ p.spare) where
@@ -109,14 +109,14 @@ module _ (p p' : Chains) (x : ℕ) (s : Loose p) (member : 1 ≤ occ_all x (chai
   pub cut_loose : Loose p'
   cut_loose = unlink_loose p x s member m.chain home p' cut free_is count_is spare_is long'
 
-  pub cut_blocks : blocks_of p' ≡ taken (blocks_of p) x
+  pub cut_blocks : blocks_in p' ≡ taken (blocks_in p) x
   cut_blocks = unlink_blocks p x s member m.chain home p' cut free_is count_is spare_is long'
 
   pub cut_later : drop p.count p'.links.now ≡ drop p.count p.links.now
   cut_later = ap (drop p.count) links_are' ∙ unlinked_later p.links.now p.root m.chain x w' pt qt (prev_used p x s member m.chain home) (next_used p x s member m.chain home) (member_busy p x s member m.chain home) e' ends_are p.count (prev_within p x s member m.chain home) (next_within p x s member m.chain home) (member_chain_within p x s member m.chain home)
 
 -- what the code's bounds want of a block in a chain
-module _ (p : Chains) (x : ℕ) (s : Loose p) (member : 1 ≤ occ_all x (chains_of p)) (m : Member) (is : get_or p.links.now (x - 1) nowhere ≡ Used m) where
+module _ (p : Tables) (x : ℕ) (s : Loose p) (member : 1 ≤ occ_all x (chains_in p)) (m : Member) (is : get_or p.links.now (x - 1) nowhere ≡ Used m) where
   pub cut_bounds : (m.previous ≤ p.count) × (m.next ≤ p.count) × (p.count ≤ length p.links.now)
   cut_bounds = let home = ap (λ l. (entry l).home) is in
       (omega (arith, prev_within p x s member m.chain home, ap (λ l. (entry l).prev) is), omega (arith, next_within p x s member m.chain home, ap (λ l. (entry l).next) is), (member_within p x s member).1)
@@ -124,7 +124,7 @@ module _ (p : Chains) (x : ℕ) (s : Loose p) (member : 1 ≤ occ_all x (chains_
   pub cut_within : Within p.count m.chain
   cut_within = member_chain_within p x s member m.chain (ap (λ l. (entry l).home) is)
 
-pub not_free : (p : Chains) (x : ℕ) → Loose p → 1 ≤ occ_all x (chains_of p) → (l : Link) → get_or p.links.now (x - 1) nowhere ≡ l → ((m : Member) → l ≡ Used m → ⊥) → ⊥
+pub not_free : (p : Tables) (x : ℕ) → Loose p → 1 ≤ occ_all x (chains_in p) → (l : Link) → get_or p.links.now (x - 1) nowhere ≡ l → ((m : Member) → l ≡ Used m → ⊥) → ⊥
 not_free p x s member (Free n) is none = false≢true (sym (ap (λ l. is_some (entry l).home) is) ∙ member_some p x s member)
 not_free p x s member (Used m) is none = none m refl
 
@@ -132,7 +132,7 @@ not_free p x s member (Used m) is none = none m refl
 pub stacked_later : (t t' : List Link) (n x : ℕ) (v : Link) → 1 ≤ x → x ≤ n → t' ≡ set t (x - 1) v → drop n t' ≡ drop n t
 stacked_later t t' n x v x1 xn is = ap (drop n) is ∙ drop-set-lt n t (x - 1) v (omega (arith, x1, xn))
 
-module _ (p p' : Chains) (x : ℕ) (s : Loose p) (x1 : 1 ≤ x) (xn : x ≤ p.count) (out : occ x (free_of p) + occ_all x (chains_of p) ≡ 0) (room : length (free_of p) + total (chains_of p) + 1 ≤ p.count) (first : chain_of p (first_of x) ≡ []) (second : chain_of p (second_of x) ≡ [])
+module _ (p p' : Tables) (x : ℕ) (s : Loose p) (x1 : 1 ≤ x) (xn : x ≤ p.count) (out : occ x (free_in p) + occ_all x (chains_in p) ≡ 0) (room : length (free_in p) + total (chains_in p) + 1 ≤ p.count) (first : chain_in p (first_of x) ≡ []) (second : chain_in p (second_of x) ≡ [])
     (links_is : p'.links.now ≡ set p.links.now (x - 1) (Free p.free)) (root_is : p'.root ≡ p.root) (free_is : p'.free ≡ x) (count_is : p'.count ≡ p.count) (spare_is : p'.spare ≡ p.spare + 1) where
   freed : Freeing (link_at p.links.now) (link_at p'.links.now) (ends_at p.root (link_at p.links.now)) (ends_at p'.root (link_at p'.links.now)) x p.free
   freed = subst (λ t. Freeing (link_at p.links.now) (link_at t) (ends_at p.root (link_at p.links.now)) (ends_at p'.root (link_at t)) x p.free) (sym links_is)
@@ -145,5 +145,5 @@ module _ (p p' : Chains) (x : ℕ) (s : Loose p) (x1 : 1 ≤ x) (xn : x ≤ p.co
   pub stacked_loose : Loose p'
   stacked_loose = push_loose p p' x s freed x1 xn out room first second free_is count_is spare_is freed_long
 
-  pub stacked_blocks : blocks_of p' ≡ pushed (blocks_of p) x
+  pub stacked_blocks : blocks_in p' ≡ pushed (blocks_in p) x
   stacked_blocks = push_blocks p p' x s freed x1 xn out room first second free_is count_is spare_is freed_long

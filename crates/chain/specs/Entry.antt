@@ -5,7 +5,10 @@ use Rattle.chain.specs.declared.link.Branch.{Branch}
 use Rattle.chain.specs.declared.link.Branch.TheVariants.{First, Second}
 use Rattle.chain.specs.declared.link.Chain.{Chain}
 use Rattle.chain.specs.declared.link.Chain.TheVariants.{Root, Members}
+use Rattle.chain.specs.declared.link.Side.{Side}
+use Rattle.chain.specs.declared.link.Side.TheVariants.{Before, Behind}
 use Rattle.chain.specs.declared.link.Ends.{Ends}
+use Rattle.chain.specs.declared.link.Member.{Member}
 use Rattle.chain.specs.declared.link.Link.{Link}
 use Rattle.chain.specs.declared.link.Link.TheVariants.{Free, Used}
 
@@ -62,6 +65,11 @@ abbrev pub entry : Link → Entry
 entry (Free next) = record { next = next; prev = 0; home = None; first = no_ends; second = no_ends }
 entry (Used m) = record { next = m.next; prev = m.previous; home = Some m.chain; first = m.first; second = m.second }
 
+-- what a link keeps of a block in a chain; none where it is free
+abbrev pub member_of : Link → Option Member
+member_of (Free next) = None
+member_of (Used m) = Some m
+
 -- block i stands in slot i - 1
 abbrev pub link_at : List Link → ℕ → Entry
 link_at t i = entry (slice_index_or t (i - 1) nowhere)
@@ -84,6 +92,11 @@ with_next v (Used m) = Used (record { previous = m.previous; next = v; chain = m
 abbrev pub with_previous : ℕ → Link → Link
 with_previous v (Free n) = Free n
 with_previous v (Used m) = Used (record { previous = v; next = m.next; chain = m.chain; first = m.first; second = m.second })
+
+-- the same with another block on one side, where the block is in a chain
+abbrev pub with_beside : Side → ℕ → Link → Link
+with_beside Before v l = with_previous v l
+with_beside Behind v l = with_next v l
 
 -- the same with other ends of one chain of its members, where the block is in a chain
 abbrev pub with_ends : Branch → Ends → Link → Link

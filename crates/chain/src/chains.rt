@@ -1,44 +1,11 @@
 // Chains of blocks and the free stack over a lent table of links.
-ghost use Rattle.std.specs.Prelude.{◌≡◌, length};
-ghost use Rattle.chain.specs.Entry.{link_at, ends_in, Within, hung, root_with};
+ghost use Rattle.chain.specs.Tables.{Sound};
 
-use crate::link::{Chain, Ends, Link};
+use crate::tables::Tables;
 
-// The links of the blocks 1 to `count`, the ends of the root's chain, and the front and the height of the free stack.
+// Tables in which each block is free or in one chain.
 #[derive(Drop)]
 pub struct Chains<'a> {
-    pub(crate) links: &'a mut [Link],
-    pub(crate) root: Ends,
-    pub(crate) free: u32,
-    pub(crate) spare: u32,
-    pub(crate) count: u32,
-}
-
-impl<'a> Chains<'a> {
-    pub(crate) fn ends_of(&self, chain: Chain) -> Ends
-        requires { Within (length self.now.links.now) chain }
-        ensures { result ≡ ends_in self.now.root (link_at self.now.links.now) chain }
-    {
-        match chain {
-            Chain::Root => self.root,
-            Chain::Members { owner, branch } => self.links[owner.number as usize - 1].ends(branch),
-        }
-    }
-
-    pub(crate) fn set_ends(&mut self, chain: Chain, ends: Ends)
-        requires { Within (length self.old.links.now) chain }
-        ensures links { self.new.links.now ≡ hung self.old.links.now chain ends }
-        ensures root { self.new.root ≡ root_with self.old.root chain ends }
-        ensures free { self.new.free ≡ self.old.free }
-        ensures spare { self.new.spare ≡ self.old.spare }
-        ensures count { self.new.count ≡ self.old.count }
-    {
-        match chain {
-            Chain::Root => self.root = ends,
-            Chain::Members { owner, branch } => {
-                let at = owner.number as usize - 1;
-                self.links[at] = self.links[at].with_ends(branch, ends);
-            }
-        }
-    }
+    pub(crate) tables: Tables<'a>,
+    ghost sound: { Sound tables },
 }

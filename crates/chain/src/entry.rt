@@ -1,9 +1,9 @@
 // Reads and changes of one link entry.
-ghost use Rattle.std.specs.Prelude.{◌≡◌, ◌-◌, ◌≤◌, length, is_some, slice_set};
+ghost use Rattle.std.specs.Prelude.{◌≡◌, ◌-◌, ◌≤◌, length, slice_set};
 ghost use Rattle.chain.specs.declared.link.Link.TheVariants.{Free};
-ghost use Rattle.chain.specs.Entry.{Entry, entry, changed, with_next, with_previous, with_ends, ends_of, ends_with, ends_without};
+ghost use Rattle.chain.specs.Entry.{Entry, entry, changed, with_next, with_previous, with_beside, with_ends, ends_of, ends_with, ends_without};
 
-use crate::link::{Branch, Ends, Link, Member};
+use crate::link::{Branch, Ends, Link, Member, Side};
 
 impl Ends {
     // The ends with block `x` behind the tail.
@@ -28,16 +28,6 @@ impl Ends {
 }
 
 impl Link {
-    // Whether the block is in a chain.
-    pub(crate) fn is_used(self) -> bool
-        ensures { result ≡ is_some (entry self).home }
-    {
-        match self {
-            Link::Used(_) => true,
-            Link::Free(_) => false,
-        }
-    }
-
     // The block behind, in a chain or in the free stack; 0 is none.
     pub(crate) fn next(self) -> u32
         ensures { result ≡ (entry self).next }
@@ -55,27 +45,21 @@ impl Link {
         match (self, branch) {
             (Link::Used(member), Branch::First) => member.first,
             (Link::Used(member), Branch::Second) => member.second,
-            (Link::Free(_), _) => Ends { head: 0, tail: 0 },
+            (Link::Free(_), _) => Ends::NONE,
         }
     }
 
-    // The same with another next block, where it is in a chain.
-    fn with_next(self, next: u32) -> Link
-        ensures { result ≡ with_next next self }
+    // The same with another block on one side, where it is in a chain; 0 is none.
+    fn with_beside(self, side: Side, x: u32) -> Link
+        ensures { result ≡ with_beside side x self }
     {
-        match self {
-            Link::Used(member) => Link::Used(Member { next, ..member }),
-            Link::Free(_) => self,
-        }
-    }
-
-    // The same with another previous block, where it is in a chain.
-    fn with_previous(self, previous: u32) -> Link
-        ensures { result ≡ with_previous previous self }
-    {
-        match self {
-            Link::Used(member) => Link::Used(Member { previous, ..member }),
-            Link::Free(_) => self,
+        match (self, side) {
+            (Link::Used(member), Side::Before) => Link::Used(Member {
+                previous: x,
+                ..member
+            }),
+            (Link::Used(member), Side::Behind) => Link::Used(Member { next: x, ..member }),
+            (Link::Free(_), _) => self,
         }
     }
 
@@ -97,25 +81,14 @@ impl Link {
     }
 }
 
-// Has block `p` go on to `next`; 0 is no block.
-pub(crate) fn set_next(links: &mut [Link], p: u32, next: u32)
+// Has block `p` stand beside `x` on one side; 0 is no block.
+pub(crate) fn set_beside(links: &mut [Link], p: u32, side: Side, x: u32)
     requires { p ≤ length links.old }
-    ensures { links.new ≡ changed links.old p (with_next next) }
+    ensures { links.new ≡ changed links.old p (with_beside side x) }
 {
     if p > 0 {
         let at = p as usize - 1;
-        links[at] = links[at].with_next(next);
-    }
-}
-
-// Has block `q` go back to `previous`; 0 is no block.
-fn set_previous(links: &mut [Link], q: u32, previous: u32)
-    requires { q ≤ length links.old }
-    ensures { links.new ≡ changed links.old q (with_previous previous) }
-{
-    if q > 0 {
-        let at = q as usize - 1;
-        links[at] = links[at].with_previous(previous);
+        links[at] = links[at].with_beside(side, x);
     }
 }
 
@@ -125,8 +98,8 @@ pub(crate) fn join(links: &mut [Link], previous: u32, next: u32)
     requires next { next ≤ length links.old }
     ensures { links.new ≡ changed (changed links.old previous (with_next next)) next (with_previous previous) }
 {
-    set_next(links, previous, next);
-    set_previous(links, next, previous);
+    set_beside(links, previous, Side::Behind, next);
+    set_beside(links, next, Side::Before, previous);
 }
 
 // Makes block `x` free, with `next` behind it in the free stack.

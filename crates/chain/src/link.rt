@@ -3,13 +3,13 @@ ghost use Rattle.std.specs.Prelude.{◌≡◌};
 ghost use Rattle.chain.specs.Entry.{found};
 
 // A block, by its number from 1 to the block count.
-#[derive(Clone, Copy)]
+#[derive(Clone, Copy, PartialEq, Eq)]
 pub struct Index {
     pub(crate) number: u32,
 }
 
 impl Index {
-    // The block of that number; 0 is no block.
+    // The block of that number; 0 is no block, and no error, so this is no `TryFrom`.
     pub fn new(number: u32) -> Option<Index>
         ensures { result ≡ found number }
     {
@@ -31,7 +31,7 @@ impl Index {
 pub const MEMBER_CHAINS: usize = 2;
 
 // Which of the chains of its members.
-#[derive(Clone, Copy)]
+#[derive(Clone, Copy, PartialEq, Eq)]
 pub enum Branch {
     First,
     Second,
@@ -43,21 +43,34 @@ impl Branch {
 }
 
 // A chain: that of the root, or one of the chains of a block's members.
-#[derive(Clone, Copy)]
+#[derive(Clone, Copy, PartialEq, Eq)]
 pub enum Chain {
     Root,
     Members { owner: Index, branch: Branch },
 }
 
+// A side of a block in its chain.
+#[derive(Clone, Copy, PartialEq, Eq)]
+pub enum Side {
+    Before,
+    Behind,
+}
+
 // The ends of a chain by number; 0 is no block.
-#[derive(Clone, Copy)]
+#[derive(Clone, Copy, PartialEq, Eq)]
 pub struct Ends {
     pub(crate) head: u32,
     pub(crate) tail: u32,
 }
 
+impl Ends {
+    // The ends of an empty chain.
+    pub(crate) const NONE: Ends = Ends { head: 0, tail: 0 };
+}
+
+// Entries keep 0 for none: with an `Option` for each of its six numbers an entry would take 64 bytes, and may take 40.
 // A block in a chain: its neighbours by number, 0 for none, its chain, and the ends of the chains of its own members.
-#[derive(Clone, Copy)]
+#[derive(Clone, Copy, PartialEq, Eq)]
 pub struct Member {
     pub(crate) previous: u32,
     pub(crate) next: u32,
@@ -67,7 +80,7 @@ pub struct Member {
 }
 
 // What a block is: free with the number of the next free block, 0 for none, or in a chain.
-#[derive(Clone, Copy)]
+#[derive(Clone, Copy, PartialEq, Eq)]
 pub enum Link {
     Free(u32),
     Used(Member),

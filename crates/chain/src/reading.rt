@@ -1,93 +1,78 @@
 // What is read of a block or a chain, in constant time.
 ghost use Rattle.std.specs.Prelude.{◌≡◌};
-ghost use Rattle.chain.specs.Entry.{found, number};
+ghost use Rattle.chain.specs.Entry.{found, number, member_of};
 ghost use Rattle.chain.specs.Rows.{head_or, last_or};
 ghost use Rattle.chain.specs.Blocks.{Living, is_used, home_of, owner_of, next_in, prev_in, ends_by, link_of};
-ghost use Rattle.chain.specs.View.{Sound, blocks_of, chain_of};
+ghost use Rattle.chain.specs.View.{blocks_of, chain_of};
 
 use crate::chains::Chains;
-use crate::link::{Chain, Ends, Index, Link};
+use crate::link::{Chain, Ends, Index, Link, Member};
 
 impl<'a> Chains<'a> {
-    // The link entry of block `x`; a number that names no block is free.
-    fn link(&self, x: Index) -> Link
-        requires { Sound self.now }
-        ensures { result ≡ link_of (blocks_of self.now) x.number }
+    // What block `x` is in its chain; none where it is free, or is no block.
+    fn member(&self, x: Index) -> Option<Member>
+        ensures { result ≡ member_of (link_of (blocks_of self.now) x.number) }
     {
         let number = x.number;
-        let count = self.count;
+        let count = self.tables.count;
         if number == 0 || number > count {
-            Link::Free(0)
-        } else {
-            self.links[number as usize - 1]
+            return None;
+        }
+        match self.tables.links[number as usize - 1] {
+            Link::Used(member) => Some(member),
+            Link::Free(_) => None,
         }
     }
 
     // Whether block `x` is in a chain.
     pub fn is_used(&self, x: Index) -> bool
-        requires { Sound self.now }
         ensures { result ≡ is_used (blocks_of self.now) x.number }
     {
-        self.link(x).is_used()
+        self.member(x).is_some()
     }
 
     // The chain that block `x` is in; none where it is free.
     pub fn chain(&self, x: Index) -> Option<Chain>
-        requires { Sound self.now }
         ensures { result ≡ home_of (blocks_of self.now) x.number }
     {
-        match self.link(x) {
-            Link::Used(member) => Some(member.chain),
-            Link::Free(_) => None,
-        }
+        Some(self.member(x)?.chain)
     }
 
     // The block whose member `x` is; none where it is free or in the root's chain.
     pub fn owner(&self, x: Index) -> Option<Index>
-        requires { Sound self.now }
         ensures { result ≡ owner_of (home_of (blocks_of self.now) x.number) }
     {
-        match self.chain(x) {
-            Some(Chain::Members { owner, branch: _ }) => Some(owner),
-            _ => None,
+        match self.chain(x)? {
+            Chain::Members { owner, branch: _ } => Some(owner),
+            Chain::Root => None,
         }
     }
 
     // The block behind `x` in its chain.
     pub fn next(&self, x: Index) -> Option<Index>
-        requires { Sound self.now }
         ensures { result ≡ found (next_in (blocks_of self.now) x.number) }
     {
-        match self.link(x) {
-            Link::Used(member) => Index::new(member.next),
-            Link::Free(_) => None,
-        }
+        Index::new(self.member(x)?.next)
     }
 
     // The block before `x` in its chain.
     pub fn previous(&self, x: Index) -> Option<Index>
-        requires { Sound self.now }
         ensures { result ≡ found (prev_in (blocks_of self.now) x.number) }
     {
-        match self.link(x) {
-            Link::Used(member) => Index::new(member.previous),
-            Link::Free(_) => None,
-        }
+        Index::new(self.member(x)?.previous)
     }
 
     // The ends of a chain, which is the root's or whose owner is in use.
     fn ends(&self, chain: Chain) -> Ends
-        requires sound { Sound self.now }
-        requires living { Living (blocks_of self.now) chain }
+        requires { Living (blocks_of self.now) chain }
         ensures { result ≡ ends_by (chain_of self.now (number chain)) }
     {
-        self.ends_of(chain)
+        self.tables.ends_of(chain)
     }
 
     // The oldest block of a chain, which is the root's or whose owner is in use.
     pub fn head(&self, chain: Chain) -> Option<Index>
-        requires sound { Sound self.now }
-        requires living { Living (blocks_of self.now) chain }
+        requires { Living (blocks_of self.now) chain }
         ensures { result ≡ found (head_or 0 (chain_of self.now (number chain))) }
     {
         Index::new(self.ends(chain).head)
@@ -95,8 +80,7 @@ impl<'a> Chains<'a> {
 
     // The newest block of a chain, which is the root's or whose owner is in use.
     pub fn tail(&self, chain: Chain) -> Option<Index>
-        requires sound { Sound self.now }
-        requires living { Living (blocks_of self.now) chain }
+        requires { Living (blocks_of self.now) chain }
         ensures { result ≡ found (last_or 0 (chain_of self.now (number chain))) }
     {
         Index::new(self.ends(chain).tail)

@@ -1,14 +1,9 @@
--- A table that is filled from its front on. Assumes nothing.
-use Rattle.std.proofs.Common.{◌≡◌, ℕ, zero, suc, ◌+◌, ◌<◌, List, [], ◌∷◌, length, set, refl, ap, ◌∙◌, arith}
-use Rattle.pool.specs.Elements.{filled}
+-- What a closure that always gives one value fills a list with. Assumes nothing.
+use Rattle.std.proofs.Common.{◌≡◌, List, [], ◌∷◌, length, replicate, refl, ap, ◌∙◌, subst}
+use Rattle.std.specs.List.{FoldsTo}
 
-pub filled_more : {T : Type 0} (i : ℕ) (x : T) (xs : List T) → i < length xs → set (filled i x xs) i x ≡ filled (i + 1) x xs
-filled_more i x xs h = step i xs h ∙ ap (λ k. filled k x xs) (suc_is i)
-  where
-    suc_is : (i : ℕ) → suc i ≡ i + 1
-    suc_is i = omega arith
-
-    step : (i : ℕ) (xs : List _) → i < length xs → set (filled i x xs) i x ≡ filled (suc i) x xs
-    step i [] h = absurd (omega (arith, h))
-    step zero (y ∷ ys) h = refl
-    step (suc i) (y ∷ ys) h = ap (λ z. x ∷ z) (step i ys (omega (arith, h)))
+pub all_same : {P A : Type 0} (R : P → A → P → Type 0) (x : A) (f last : P) → ((y : A) (q : P) → R f y q → (q ≡ f) × (y ≡ x)) → (xs : List A) → FoldsTo R f xs last → xs ≡ replicate (length xs) x
+all_same R x f last each [] h = refl
+all_same R x f last each (y ∷ ys) h =
+    let e = each y h.0 h.1 in
+    ap (λ z. z ∷ ys) e.1 ∙ ap (λ zs. x ∷ zs) (all_same R x f last each ys (subst (λ p. FoldsTo R p ys last) e.0 h.2))

@@ -1,7 +1,8 @@
 // A pool of blocks for any sort of element: chains of blocks, and a lent table with the element of each block.
 ghost use Rattle.std.specs.Prelude.{◌≡◌, ℕ, ◌≤◌, min, length, drop};
 ghost use Rattle.chain.specs.Blocks.{opened};
-ghost use Rattle.chain.specs.View.{Sound, blocks_of};
+ghost use Rattle.chain.specs.Tables.{Spares};
+ghost use Rattle.chain.specs.View.{blocks_of};
 ghost use Rattle.pool.specs.Elements.{filled};
 
 use chain::{Chains, Link};
@@ -10,6 +11,7 @@ use chain::{Chains, Link};
 pub struct Pool<'a, T> {
     pub(crate) chains: Chains<'a>,
     pub(crate) elements: &'a mut [T],
+    ghost roomy: { chains.tables.count ≤ length elements.now },
 }
 
 // Writes `blank` into the first `count` elements.
@@ -17,9 +19,7 @@ fn fill<T: Copy>(elements: &mut [T], count: u32, blank: T)
     requires { count ≤ length elements.old }
     ensures { elements.new ≡ filled count blank elements.old }
 {
-    for i in 0..count {
-        elements[i as usize] = blank;
-    }
+    elements[..count as usize].fill_with(|| blank);
 }
 
 impl<'a, T> Pool<'a, T> {
@@ -27,12 +27,10 @@ impl<'a, T> Pool<'a, T> {
     pub fn open(links: &'a mut [Link], elements: &'a mut [T], most: u32, blank: T) -> Pool<'a, T>
     where
         T: Copy,
-        ensures sound { Sound result.chains }
-        ensures roomy { result.chains.count ≤ length result.elements.now }
-        ensures count { result.chains.count ≡ min (min (length links.old) (length elements.old)) most }
-        ensures blocks { blocks_of result.chains ≡ opened result.chains.count }
-        ensures elements { result.elements.now ≡ filled result.chains.count blank elements.old }
-        ensures later { drop result.chains.count result.chains.links.now ≡ drop result.chains.count links.old }
+        ensures count { result.chains.tables.count ≡ min (min (length links.old) (length elements.old)) most }
+        ensures blocks { blocks_of result.chains ≡ opened result.chains.tables.count }
+        ensures elements { result.elements.now ≡ filled result.chains.tables.count blank elements.old }
+        ensures later { drop result.chains.tables.count result.chains.tables.links.now ≡ drop result.chains.tables.count links.old }
     {
         let most = elements.len().min(most as usize) as u32;
         let chains = Chains::open(links, most);
@@ -45,14 +43,9 @@ impl<'a, T> Pool<'a, T> {
     pub fn reopen(&mut self, blank: T)
     where
         T: Copy,
-        requires sound { Sound self.old.chains }
-        requires roomy { self.old.chains.count ≤ length self.old.elements.now }
-        ensures sound { Sound self.new.chains }
-        ensures roomy { self.new.chains.count ≤ length self.new.elements.now }
-        ensures count { self.new.chains.count ≡ self.old.chains.count }
-        ensures blocks { blocks_of self.new.chains ≡ opened self.old.chains.count }
-        ensures elements { self.new.elements.now ≡ filled self.old.chains.count blank self.old.elements.now }
-        ensures later { drop self.old.chains.count self.new.chains.links.now ≡ drop self.old.chains.count self.old.chains.links.now }
+        ensures blocks { blocks_of self.new.chains ≡ opened self.old.chains.tables.count }
+        ensures elements { self.new.elements.now ≡ filled self.old.chains.tables.count blank self.old.elements.now }
+        ensures spared { Spares self.old.chains.tables self.new.chains.tables }
     {
         self.chains.reopen();
         let count = self.chains.count();

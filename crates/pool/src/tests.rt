@@ -1,6 +1,5 @@
 // Scripts of creations and deletions on four blocks, at two sorts of element.
 ghost use Rattle.std.specs.Prelude.{◌≤◌, length, nat_eq};
-ghost use Rattle.chain.specs.View.{Sound};
 
 use crate::pool::Pool;
 use crate::sequence::SequenceNumber;
@@ -29,19 +28,11 @@ const BLANK: Item = Item { kind: 0, value: 0 };
 
 // The number of an index; 0 is none.
 fn shown(x: Option<Index>) -> u32 {
-    match x {
-        Some(x) => x.number(),
-        None => 0,
-    }
+    x.map_or(0, |x| x.number())
 }
 
 // Creates a member of block `owner`, and gives its number; 0 where there is none.
-fn add(pool: &mut Pool<Item>, owner: u32, branch: Branch) -> u32
-    requires sound { Sound pool.old.chains }
-    requires roomy { pool.old.chains.count ≤ length pool.old.elements.now }
-    ensures sound { Sound pool.new.chains }
-    ensures roomy { pool.new.chains.count ≤ length pool.new.elements.now }
-{
+fn add(pool: &mut Pool<Item>, owner: u32, branch: Branch) -> u32 {
     if let Some(owner) = Index::new(owner) {
         if pool.is_used(owner) {
             return shown(pool.create(Chain::Members { owner, branch }, Item { kind: 2, value: 7 }));
@@ -51,12 +42,7 @@ fn add(pool: &mut Pool<Item>, owner: u32, branch: Branch) -> u32
 }
 
 // Deletes block `x` with its members, where it is in use.
-fn take(pool: &mut Pool<Item>, x: u32)
-    requires sound { Sound pool.old.chains }
-    requires roomy { pool.old.chains.count ≤ length pool.old.elements.now }
-    ensures sound { Sound pool.new.chains }
-    ensures roomy { pool.new.chains.count ≤ length pool.new.elements.now }
-{
+fn take(pool: &mut Pool<Item>, x: u32) {
     if let Some(x) = Index::new(x) {
         if pool.is_used(x) {
             pool.delete(x);

@@ -4,4 +4,4 @@ use Rattle.chain.proofs.Moves.{spare_is}
 use Rattle.chain.proofs.chains.Chains.spare.Goals as goal
 
 pub returns : goal.returns
-returns c = spare_is _ (loose _ c.requires)
+returns c = spare_is _ (loose _ c.args.self.now.sound)

@@ -4,7 +4,7 @@ use Rattle.chain.specs.Entry.{ends_in, link_at, hung}
 use Rattle.chain.proofs.Numbers.{within_more}
 use Rattle.chain.proofs.Moves.{member_within}
 use Rattle.chain.proofs.Steps.{cut_bounds, cut_within, cut_loose, cut_blocks, cut_later, not_free}
-use Rattle.chain.proofs.chains.Chains.unlink.Goals as goal
+use Rattle.chain.proofs.tables.Tables.unlink.Goals as goal
 
 pub overflow_sub-link : goal.overflow_sub-link
 overflow_sub-link c = let h = member_within _ _ c.requires.loose c.requires.member in omega arith
@@ -34,11 +34,10 @@ returns-in-Used c =
     let e_is = c.ends_of-ends.ensures ∙ ap (λ z. ends_in p.root (link_at z) m.chain) table in
     let links_is = c.set_ends.ensures.links ∙ ap (λ z. hung z m.chain c.without.result) table in
     record {
-      loose = cut_loose p p' c.args.x c.requires.loose c.requires.member m c.in-Used.is _ _ e_is c.without.ensures links_is c.set_ends.ensures.root c.set_ends.ensures.free c.set_ends.ensures.count c.set_ends.ensures.spare;
-      blocks = cut_blocks p p' c.args.x c.requires.loose c.requires.member m c.in-Used.is _ _ e_is c.without.ensures links_is c.set_ends.ensures.root c.set_ends.ensures.free c.set_ends.ensures.count c.set_ends.ensures.spare;
-      count = c.set_ends.ensures.count;
-      later = cut_later p p' c.args.x c.requires.loose c.requires.member m c.in-Used.is _ _ e_is c.without.ensures links_is c.set_ends.ensures.root c.set_ends.ensures.free c.set_ends.ensures.count c.set_ends.ensures.spare;
+      loose = cut_loose p p' c.args.x.number c.requires.loose c.requires.member m c.in-Used.is _ _ e_is c.without.ensures links_is c.set_ends.ensures.root c.set_ends.ensures.free c.set_ends.ensures.count c.set_ends.ensures.spare;
+      blocks = cut_blocks p p' c.args.x.number c.requires.loose c.requires.member m c.in-Used.is _ _ e_is c.without.ensures links_is c.set_ends.ensures.root c.set_ends.ensures.free c.set_ends.ensures.count c.set_ends.ensures.spare;
+      spared = record { count = c.set_ends.ensures.count; later = cut_later p p' c.args.x.number c.requires.loose c.requires.member m c.in-Used.is _ _ e_is c.without.ensures links_is c.set_ends.ensures.root c.set_ends.ensures.free c.set_ends.ensures.count c.set_ends.ensures.spare };
     }
 
 pub returns-in_default : goal.returns-in_default
-returns-in_default c = absurd (not_free _ c.args.x c.requires.loose c.requires.member _ refl (λ m is. c.in_default.not-Used m is))
+returns-in_default c = absurd (not_free _ c.args.x.number c.requires.loose c.requires.member _ refl (λ m is. c.in_default.not-Used m is))
