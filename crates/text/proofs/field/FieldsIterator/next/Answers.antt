@@ -24,6 +24,7 @@ returns-clause-steps c =
     let line = c.args.self.now.line.now in
     let rest = c.in_ok-rest.rest.now in
     let at = c.in_ok-at.at in
+    let start : c.args.self.now.start ≡ Some at = cc in
     let b = c.in_ok-rest.ensures.lookup.0 in
     let e : rest ≡ drop at line = b.2 ∙ take_rest line at in
     let next : c.map-self.result ≡ option_map (λ k. at + k + 1) (position is_comma rest) = grind (arith, common_steps) in
@@ -31,8 +32,8 @@ returns-clause-steps c =
     let here = cut_here line rest at b.0 e in
     let text = text_is c.field_of.result (take c.unwrap_or.result rest) at c.field_of.ensures in
     let left : fields_left c.args.self.now ≡ text_of c.field_of.result ∷ fields_left (record { line = c.args.self.now.line; start = c.map-self.result }) =
-    ap (cuts_from line) c.in_ok-at.was ∙ here ∙ ap (λ k. take k rest ∷ cuts_from line (option_map (λ k. at + k + 1) (position is_comma rest))) (sym n) ∙ ap (λ t. t ∷ cuts_from line (option_map (λ k. at + k + 1) (position is_comma rest))) (sym text) ∙ ap (λ p. text_of c.field_of.result ∷ cuts_from line p) (sym next) in
-    (left, (placed c.field_of.result (take c.unwrap_or.result rest) at c.args.self.now c.field_of.ensures c.in_ok-at.was (ap (take (length (take c.unwrap_or.result rest))) (sym e) ∙ take_own c.unwrap_or.result rest), refl))
+    ap (cuts_from line) start ∙ here ∙ ap (λ k. take k rest ∷ cuts_from line (option_map (λ k. at + k + 1) (position is_comma rest))) (sym n) ∙ ap (λ t. t ∷ cuts_from line (option_map (λ k. at + k + 1) (position is_comma rest))) (sym text) ∙ ap (λ p. text_of c.field_of.result ∷ cuts_from line p) (sym next) in
+    (left, (placed c.field_of.result (take c.unwrap_or.result rest) at c.args.self.now c.field_of.ensures start (ap (take (length (take c.unwrap_or.result rest))) (sym e) ∙ take_own c.unwrap_or.result rest), refl))
 
 pub returns-clause-goes : goal.returns-clause-goes
 returns-clause-goes c = let long = ap length (returns-clause-steps c).0 in record { on = λ _. (tt, tt, omega (arith, long)); keeps = tt; rests = λ _. tt }
