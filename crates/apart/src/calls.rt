@@ -53,8 +53,8 @@ pub fn write<M: Make>(
     ensures answer { result ≡ answer_of out.old (wrote M.Make.spec (ledger_of M.Make session.old memory.old.pool) (passed_of tested.entry)).said }
     ensures buffer { out.new ≡ buffer_of out.old (wrote M.Make.spec (ledger_of M.Make session.old memory.old.pool) (passed_of tested.entry)).said }
     ensures ledger { ledger_of M.Make session.new memory.new.pool ≡ next_of out.old (ledger_of M.Make session.old memory.old.pool) (wrote M.Make.spec (ledger_of M.Make session.old memory.old.pool) (passed_of tested.entry)).next }
-    ensures links { (i : ℕ) → 1 ≤ i → i ≤ memory.new.pool.chains.count → slice_index_or memory.new.pool.chains.links.now (i - 1) nowhere ≡ link_of (blocks_of memory.new.pool.chains) i }
-    ensures records { memory.new.pool.elements.now ≡ changed M.Make memory.old.pool.chains.count (change_of out.old (wrote M.Make.spec (ledger_of M.Make session.old memory.old.pool) (passed_of tested.entry)).change) memory.old.pool.elements.now }
+    ensures links { (i : ℕ) → 1 ≤ i → i ≤ memory.new.pool.chains.tables.count → slice_index_or memory.new.pool.chains.tables.links.now (i - 1) nowhere ≡ link_of (blocks_of memory.new.pool.chains) i }
+    ensures records { memory.new.pool.elements.now ≡ changed M.Make memory.old.pool.chains.tables.count (change_of out.old (wrote M.Make.spec (ledger_of M.Make session.old memory.old.pool) (passed_of tested.entry)).change) memory.old.pool.elements.now }
     ensures spared { Spared memory.old.pool memory.new.pool }
 {
     if out.len() < LEAST_BUFFER {

@@ -26,12 +26,12 @@ pub record Gives {M R : Type 0} (make : MakeOf M R) (p p' : Pool R) (c : Command
   pub said : said_by make c r ≡ (x (store_of make p)).said
   pub shows : IfOk r Showable
   pub store : store_of make p' ≡ (x (store_of make p)).next
-  pub records : p'.elements.now ≡ changed make p.chains.count (x (store_of make p)).change p.elements.now
+  pub records : p'.elements.now ≡ changed make p.chains.tables.count (x (store_of make p)).change p.elements.now
   pub spared : Spared p p'
 
 -- the same of a whole line, whose reply is t, and after which the session and the memory stand for L'
 pub record Hears {M R : Type 0} (make : MakeOf M R) (p p' : Pool R) (t : List ℕ) (L' : Ledger) (x : Heard) : Type 0 where
   pub said : t ≡ x.said
   pub ledger : L' ≡ x.next
-  pub records : p'.elements.now ≡ changed make p.chains.count x.change p.elements.now
+  pub records : p'.elements.now ≡ changed make p.chains.tables.count x.change p.elements.now
   pub spared : Spared p p'

@@ -9,8 +9,8 @@ use Rattle.make.specs.Data.{MakeSpec, FieldSpec, fields_of, starts_in, standard_
 use Rattle.chain.specs.Entry.{first_of, second_of}
 use Rattle.chain.specs.Rows.{tick, occ}
 use Rattle.chain.specs.Blocks.{Blocks, run, opened, deleted, occ_all, total}
-use Rattle.chain.specs.View.{Holds}
-use Rattle.chain.specs.declared.chains.Chains.{Chains}
+use Rattle.chain.specs.Tables.{Holds}
+use Rattle.chain.specs.declared.tables.Tables.{Tables}
 use Rattle.chain.proofs.Keeps.{tick_same, tick_other, occ-append}
 use Rattle.chain.proofs.Counts.{occ_set, total_set, stack_within, chain_within}
 use Rattle.chain.proofs.Homes.{home_some}
@@ -31,7 +31,7 @@ use Rattle.history.proofs.Stepping.{by_move}
 use Rattle.history.proofs.Removing.{Clear, Left, Gone, minus, minus_nil, goes}
 
 -- what tables keep makes their blocks orderly
-pub orderly : (p : Chains) (L : Blocks) → Holds p L → Orderly p.count L
+pub orderly : (p : Tables) (L : Blocks) → Holds p L → Orderly p.count L
 orderly p L h =
     let k = h.linked.kept in
     record {

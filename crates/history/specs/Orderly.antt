@@ -5,8 +5,8 @@ use Rattle.make.specs.declared.kind.Kind.TheVariants.{System}
 use Rattle.chain.specs.Entry.{first_of, second_of}
 use Rattle.chain.specs.Rows.{occ}
 use Rattle.chain.specs.Blocks.{Blocks, chain, occ_all, total}
-use Rattle.chain.specs.declared.chains.Chains.{Chains}
-use Rattle.chain.specs.View.{Holds}
+use Rattle.chain.specs.declared.tables.Tables.{Tables}
+use Rattle.chain.specs.Tables.{Holds}
 use Rattle.ledger.specs.Ledger.{Store, Holding}
 
 -- n blocks, each free or in one chain
@@ -35,4 +35,4 @@ pub record Steady (S : MakeSpec) (n : ℕ) (L : Store) : Type 0 where
 
 -- the blocks that sound tables stand for are orderly
 abbrev pub TablesStand : Type 0
-TablesStand = (p : Chains) (L : Blocks) → Holds p L → Orderly p.count L
+TablesStand = (p : Tables) (L : Blocks) → Holds p L → Orderly p.count L

@@ -5,7 +5,6 @@ ghost use Rattle.memory.specs.View.{store_of};
 ghost use Rattle.sheet.specs.Sheet.{names, row, is_row, part, parts_of, sheet};
 
 use chain::Index;
-use line::records::same_kind;
 use make::{Kind, Make};
 use memory::Memory;
 use sheet::{put_names, put_row};
@@ -62,18 +61,7 @@ fn is_row<M: Make>(memory: &Memory<'_, M>, kind: Kind, x: Index) -> bool
         return false;
     }
     let record = memory.read(x);
-    same_kind(kind, M::kind(&record))
-}
-
-// The block behind that many others.
-fn block_behind(others: u32) -> Index
-    requires { others ≤ 45000 }
-    ensures { result.number ≡ others + 1 }
-{
-    match Index::new(others + 1) {
-        Some(x) => x,
-        None => unreachable(),
-    }
+    kind == M::kind(&record)
 }
 
 // Adds the row of record `x`, and before it the names of its kind where they do not stand yet.
@@ -102,42 +90,17 @@ fn add_part<M: Make>(
 ) -> Result<(), AllocError>
     ensures { OnOk result (out.new.items ≡ out.old.items ++ part M.Make.spec (store_of M.Make memory.now.pool) kind) }
 {
-    let count = memory.count();
     let mut named = false;
-    for before in 0..count {
-        let x = block_behind(before);
-        if is_row(memory, kind, x) {
+    for number in 1..=memory.count() {
+        if let Some(x) = Index::new(number)
+            && is_row(memory, kind, x)
+        {
             add_named_row(memory, kind, x, named, out)?;
             named = true;
         }
     }
     Ok(())
 }
-
-// Adds the parts of some kinds, one after the other.
-fn add_parts<M: Make>(
-    memory: &Memory<'_, M>,
-    kinds: &[Kind],
-    out: &mut Vec<u8>,
-) -> Result<(), AllocError>
-    ensures { OnOk result (out.new.items ≡ out.old.items ++ parts_of M.Make.spec (store_of M.Make memory.now.pool) kinds.now) }
-{
-    for kind in kinds {
-        add_part(memory, *kind, out)?;
-    }
-    Ok(())
-}
-
-// The kinds in their order.
-const KINDS: [Kind; 7] = [
-    Kind::System,
-    Kind::Site,
-    Kind::ChannelGroup,
-    Kind::TalkgroupGroup,
-    Kind::Channel,
-    Kind::Talkgroup,
-    Kind::TrunkFrequency,
-];
 
 // Adds the sheet.
 pub(crate) fn add_sheet<M: Make>(
@@ -146,5 +109,8 @@ pub(crate) fn add_sheet<M: Make>(
 ) -> Result<(), AllocError>
     ensures { OnOk result (out.new.items ≡ out.old.items ++ sheet M.Make.spec (store_of M.Make memory.now.pool)) }
 {
-    add_parts(memory, &KINDS, out)
+    for kind in Kind::ALL {
+        add_part(memory, kind, out)?;
+    }
+    Ok(())
 }
