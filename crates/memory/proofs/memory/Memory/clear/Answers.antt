@@ -18,12 +18,12 @@ returns g c =
     let K = g.M.Make.kindof in
     let T = g.M.Make.systemtype in
     let X = g.M.Make.texts in
-    let n = p.chains.count in
+    let n = p.chains.tables.count in
     let new : meaning K T X c.fresh-blank.result ≡ fresh g.M.Make.spec System 0 = ap (meaning K T X) c.fresh-blank.ensures.value ∙ means System (K (g.M.Make.made System 0)) 0 (T (g.M.Make.made System 0)) (X (g.M.Make.made System 0)) (starts_of g.M.Make.spec System) (g.met.M.Make.madekind System 0) (λ e. g.met.M.Make.madetype 0) (g.met.M.Make.madetexts System 0) in
-    let held : map (meaning K T X) (take q.chains.count q.elements.now) ≡ replicate n (fresh g.M.Make.spec System 0) = ap (λ z. map (meaning K T X) (take z q.elements.now)) c.reopen.ensures.count ∙ held_filled (meaning K T X) n p.elements.now q.elements.now c.fresh-blank.result (fresh g.M.Make.spec System 0) c.reopen.ensures.elements new in
-    let same = held_length (meaning K T X) n p.elements.now m.roomy in
+    let held : map (meaning K T X) (take q.chains.tables.count q.elements.now) ≡ replicate n (fresh g.M.Make.spec System 0) = ap (λ z. map (meaning K T X) (take z q.elements.now)) c.reopen.ensures.spared.count ∙ held_filled (meaning K T X) n p.elements.now q.elements.now c.fresh-blank.result (fresh g.M.Make.spec System 0) c.reopen.ensures.elements new in
+    let same = held_length (meaning K T X) n p.elements.now m.pool.roomy in
     record {
       store = same_store _ _ _ _ c.reopen.ensures.blocks held ∙ ap (emptied g.M.Make.spec) (sym same);
       records = c.reopen.ensures.elements ∙ ap (λ r. filled n r p.elements.now) c.fresh-blank.ensures.value;
-      spared = record { count = c.reopen.ensures.count; links = c.reopen.ensures.later; records = drop-filled n p.elements.now q.elements.now c.fresh-blank.result c.reopen.ensures.elements };
+      spared = record { count = c.reopen.ensures.spared.count; links = c.reopen.ensures.spared.later; records = drop-filled n p.elements.now q.elements.now c.fresh-blank.result c.reopen.ensures.elements };
     }

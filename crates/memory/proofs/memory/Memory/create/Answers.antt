@@ -14,7 +14,7 @@ use Rattle.memory.proofs.memory.Memory.create.Goals as goal
 
 pub create-requires : goal.create-requires
 unfolding store_of
-create-requires g c = let m = c.args.self.now in record { sound = m.sound; roomy = m.roomy; living = c.requires.living }
+create-requires g c = c.requires.living
 
 pub returns : goal.returns
 unfolding store_of
@@ -28,13 +28,13 @@ returns g c =
     let k = c.args.kind in
     let n = c.args.system_type in
     let x = head_or 0 (free_of p.chains) in
-    let front = front_bound p.chains m.sound in
+    let front = front_bound p.chains in
     let new : meaning K T X c.fresh-record.result ≡ fresh g.M.Make.spec k n = ap (meaning K T X) c.fresh-record.ensures.value ∙ means k (K (g.M.Make.made k n)) n (T (g.M.Make.made k n)) (X (g.M.Make.made k n)) (starts_of g.M.Make.spec k) (g.met.M.Make.madekind k n) (λ e. ap (λ (z : Kind). T (g.M.Make.made z n)) e ∙ g.met.M.Make.madetype n) (g.met.M.Make.madetexts k n) in
-    let held : map (meaning K T X) (take q.chains.count q.elements.now) ≡ stored x (fresh g.M.Make.spec k n) (map (meaning K T X) (take p.chains.count p.elements.now)) = ap (λ z. map (meaning K T X) (take z q.elements.now)) c.create.ensures.count ∙ held_stored (meaning K T X) p.chains.count x p.elements.now q.elements.now c.fresh-record.result (fresh g.M.Make.spec k n) c.create.ensures.elements new in
+    let held : map (meaning K T X) (take q.chains.tables.count q.elements.now) ≡ stored x (fresh g.M.Make.spec k n) (map (meaning K T X) (take p.chains.tables.count p.elements.now)) = ap (λ z. map (meaning K T X) (take z q.elements.now)) c.create.ensures.spared.count ∙ held_stored (meaning K T X) p.chains.tables.count x p.elements.now q.elements.now c.fresh-record.result (fresh g.M.Make.spec k n) c.create.ensures.elements new in
     record {
       value = number_is _ x c.create.ensures.answer;
       proper = proper _ x c.create.ensures.answer (omega (arith, front, m.few));
-      store = grown_is g.M.Make.spec (store_of K T X p) (number c.args.chain) k n (blocks_of q.chains) (map (meaning K T X) (take q.chains.count q.elements.now)) c.create.ensures.blocks held;
+      store = grown_is g.M.Make.spec (store_of K T X p) (number c.args.chain) k n (blocks_of q.chains) (map (meaning K T X) (take q.chains.tables.count q.elements.now)) c.create.ensures.blocks held;
       records = c.create.ensures.elements ∙ ap (λ r. stored x r p.elements.now) c.fresh-record.ensures.value;
-      spared = record { count = c.create.ensures.count; links = c.create.ensures.later; records = drop-stored p.chains.count x p.elements.now q.elements.now c.fresh-record.result front c.create.ensures.elements };
+      spared = record { count = c.create.ensures.spared.count; links = c.create.ensures.spared.later; records = drop-stored p.chains.tables.count x p.elements.now q.elements.now c.fresh-record.result front c.create.ensures.elements };
     }
