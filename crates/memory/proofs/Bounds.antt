@@ -11,7 +11,7 @@ use Rattle.chain.specs.declared.link.Chain.TheVariants.{Root, Members}
 use Rattle.chain.specs.Entry.{number, chain_at, found}
 use Rattle.chain.specs.Rows.{head_or, last_or, occ}
 use Rattle.chain.specs.Blocks.{occ_all, home_of, owner_of, row_of, next_of, prev_from, next_in, prev_in, is_used}
-use Rattle.chain.specs.View.{Sound, blocks_of, chains_of, chain_of, free_of}
+use Rattle.chain.specs.View.{blocks_of, chain_of, free_of}
 use Rattle.chain.proofs.Numbers.{Owned, at_owned, number_at}
 use Rattle.chain.proofs.Keeps.{tick_same}
 use Rattle.chain.proofs.Counts.{chain_within, len_one, front_in}
@@ -84,65 +84,65 @@ owner_at n Root o h = (omega arith, refl)
 owner_at n (Members i First) o h = (omega (arith, o, h), some_block i i.number refl o)
 owner_at n (Members i Second) o h = (omega (arith, o, h), some_block i i.number refl o)
 
-module _ (p : Chains) (s : Sound p) where
-  chain_upto : (c : ℕ) → Upto p.count (chain_of p c)
-  chain_upto c i h = by_view p _ le_prop (loose p s) (λ k. (chain_within _ _ _ _ _ k.kept c i h).0.1)
+module _ (p : Chains) where
+  chain_upto : (c : ℕ) → Upto p.tables.count (chain_of p c)
+  chain_upto c i h = by_view p.tables _ le_prop (loose p.tables p.sound) (λ k. (chain_within _ _ _ _ _ k.kept c i h).0.1)
 
-  row_upto : (h : Option Chain) → Upto p.count (row_of (blocks_of p) h)
+  row_upto : (h : Option Chain) → Upto p.tables.count (row_of (blocks_of p) h)
   row_upto None i h = absurd (omega (arith, h))
   row_upto (Some c) i h = chain_upto (number c) i h
 
-  pub next_bound : (x : ℕ) → next_in (blocks_of p) x ≤ p.count
-  next_bound x = next_upto p.count x _ (row_upto (home_of (blocks_of p) x))
+  pub next_bound : (x : ℕ) → next_in (blocks_of p) x ≤ p.tables.count
+  next_bound x = next_upto p.tables.count x _ (row_upto (home_of (blocks_of p) x))
 
-  pub previous_bound : (x : ℕ) → prev_in (blocks_of p) x ≤ p.count
-  previous_bound x = prev_upto p.count 0 x _ (omega arith) (row_upto (home_of (blocks_of p) x))
+  pub previous_bound : (x : ℕ) → prev_in (blocks_of p) x ≤ p.tables.count
+  previous_bound x = prev_upto p.tables.count 0 x _ (omega arith) (row_upto (home_of (blocks_of p) x))
 
-  pub head_bound : (c : ℕ) → head_or 0 (chain_of p c) ≤ p.count
-  head_bound c = head_upto p.count _ (chain_upto c)
+  pub head_bound : (c : ℕ) → head_or 0 (chain_of p c) ≤ p.tables.count
+  head_bound c = head_upto p.tables.count _ (chain_upto c)
 
-  pub tail_bound : (c : ℕ) → last_or 0 (chain_of p c) ≤ p.count
-  tail_bound c = last_upto p.count 0 _ (omega arith) (chain_upto c)
+  pub tail_bound : (c : ℕ) → last_or 0 (chain_of p c) ≤ p.tables.count
+  tail_bound c = last_upto p.tables.count 0 _ (omega arith) (chain_upto c)
 
-  pub front_bound : head_or 0 (free_of p) ≤ p.count
-  front_bound = by_view p _ le_prop (loose p s) (λ k. front_in p.count _ (free_of p) k.kept.stack)
+  pub front_bound : head_or 0 (free_of p) ≤ p.tables.count
+  front_bound = by_view p.tables _ le_prop (loose p.tables p.sound) (λ k. front_in p.tables.count _ (free_of p) k.kept.stack)
 
-  pub spare_bound : length (free_of p) ≤ p.count
-  spare_bound = by_sound p _ le_prop s (λ k. omega (arith, k.full))
+  pub spare_bound : length (free_of p) ≤ p.tables.count
+  spare_bound = by_sound p.tables _ le_prop p.sound (λ k. omega (arith, k.full))
 
-  pub length_bound : (c : ℕ) → length (chain_of p c) ≤ p.count
-  length_bound c = by_sound p _ le_prop s (λ k. omega (arith, k.full, len_one c (chains_of p)))
+  pub length_bound : (c : ℕ) → length (chain_of p c) ≤ p.tables.count
+  length_bound c = by_sound p.tables _ le_prop p.sound (λ k. omega (arith, k.full, len_one c ((blocks_of p).chains)))
 
-  row_length : (h : Option Chain) → length (row_of (blocks_of p) h) ≤ p.count
+  row_length : (h : Option Chain) → length (row_of (blocks_of p) h) ≤ p.tables.count
   row_length None = omega arith
   row_length (Some c) = length_bound (number c)
 
-  pub place_bound : (x : ℕ) → place_in (row_of (blocks_of p) (home_of (blocks_of p) x)) x ≤ p.count
+  pub place_bound : (x : ℕ) → place_in (row_of (blocks_of p) (home_of (blocks_of p) x)) x ≤ p.tables.count
   place_bound x = omega (arith, place_most 1 x (row_of (blocks_of p) (home_of (blocks_of p) x)), row_length (home_of (blocks_of p) x))
 
-  owner_found : (x : ℕ) → (number_of (owner_of (home_of (blocks_of p) x)) ≤ p.count) × (owner_of (home_of (blocks_of p) x) ≡ found (number_of (owner_of (home_of (blocks_of p) x))))
-  owner_found x = elim (cases_lt 0 (occ_all x (chains_of p))) [
+  owner_found : (x : ℕ) → (number_of (owner_of (home_of (blocks_of p) x)) ≤ p.tables.count) × (owner_of (home_of (blocks_of p) x) ≡ found (number_of (owner_of (home_of (blocks_of p) x))))
+  owner_found x = elim (cases_lt 0 (occ_all x ((blocks_of p).chains))) [
     | inl some ↦
-        let r = home_some (chains_of p) 0 x some in
-        let within : r.c ≤ p.count + p.count = by_view p _ le_prop (loose p s) (λ k. (chain_within _ _ _ _ _ k.kept r.c x r.there).1) in
+        let r = home_some ((blocks_of p).chains) 0 x some in
+        let within : r.c ≤ p.tables.count + p.tables.count = by_view p.tables _ le_prop (loose p.tables p.sound) (λ k. (chain_within _ _ _ _ _ k.kept r.c x r.there).1) in
         let zero_plus : 0 + r.c ≡ r.c = omega arith in
         let here : home_of (blocks_of p) x ≡ Some (chain_at r.c) = r.home ∙ ap (λ z. Some (chain_at z)) zero_plus in
-        let P : Option Chain → Type 0 = λ h. (number_of (owner_of h) ≤ p.count) × (owner_of h ≡ found (number_of (owner_of h))) in
-        subst P (sym here) (owner_at p.count (chain_at r.c) (at_owned r.c) (omega (arith, within, number_at r.c)))
+        let P : Option Chain → Type 0 = λ h. (number_of (owner_of h) ≤ p.tables.count) × (owner_of h ≡ found (number_of (owner_of h))) in
+        subst P (sym here) (owner_at p.tables.count (chain_at r.c) (at_owned r.c) (omega (arith, within, number_at r.c)))
     | inr none ↦
-        let P : Option Chain → Type 0 = λ h. (number_of (owner_of h) ≤ p.count) × (owner_of h ≡ found (number_of (owner_of h))) in
-        subst P (sym (home_none (chains_of p) 0 x (omega (arith, none)))) (omega arith, refl)
+        let P : Option Chain → Type 0 = λ h. (number_of (owner_of h) ≤ p.tables.count) × (owner_of h ≡ found (number_of (owner_of h))) in
+        subst P (sym (home_none ((blocks_of p).chains) 0 x (omega (arith, none)))) (omega arith, refl)
   ]
 
-  pub owner_proper : (x : ℕ) (r : Option Index) → r ≡ owner_of (home_of (blocks_of p) x) → p.count ≤ 45000 → Proper r
+  pub owner_proper : (x : ℕ) (r : Option Index) → r ≡ owner_of (home_of (blocks_of p) x) → p.tables.count ≤ 45000 → Proper r
   owner_proper x r e few = let o = owner_found x in proper r (number_of (owner_of (home_of (blocks_of p) x))) (e ∙ o.1) (omega (arith, o.0, few))
 
   -- a block in use is one of the blocks
-  pub used_bound : (x : ℕ) → is_used (blocks_of p) x ≡ true → (1 ≤ x) × (x ≤ p.count)
+  pub used_bound : (x : ℕ) → is_used (blocks_of p) x ≡ true → (1 ≤ x) × (x ≤ p.tables.count)
   used_bound x u =
-      let some : 1 ≤ occ_all x (chains_of p) = ltb-true 0 (occ_all x (chains_of p)) u in
-      let r = home_some (chains_of p) 0 x some in
-      by_view p _ (×_prop le_prop le_prop) (loose p s) (λ k. (chain_within _ _ _ _ _ k.kept r.c x r.there).0)
+      let some : 1 ≤ occ_all x ((blocks_of p).chains) = ltb-true 0 (occ_all x ((blocks_of p).chains)) u in
+      let r = home_some ((blocks_of p).chains) 0 x some in
+      by_view p.tables _ (×_prop le_prop le_prop) (loose p.tables p.sound) (λ k. (chain_within _ _ _ _ _ k.kept r.c x r.there).0)
 
 -- a place in a chain as a number
 pub some_place : (n : ℕ) (s : SequenceNumber) → Some s ≡ sequence n → s.place ≡ n

@@ -12,10 +12,10 @@ module _ {M R : Type 0} (make : MakeOf M R) where
 
   -- the blocks that the links tell, and what the records mean, of each block up to the count
   unfoldable pub store_of : Pool R → Store
-  store_of p = record { blocks = blocks_of p.chains; held = map meaning (take p.chains.count p.elements.now) }
+  store_of p = record { blocks = blocks_of p.chains; held = map meaning (take p.chains.tables.count p.elements.now) }
 
 -- no entry past the block count changed, in either table
 pub record Spared {R : Type 0} (p p' : Pool R) : Type 0 where
-  pub count : p'.chains.count ≡ p.chains.count
-  pub links : drop p.chains.count p'.chains.links.now ≡ drop p.chains.count p.chains.links.now
-  pub records : drop p.chains.count p'.elements.now ≡ drop p.chains.count p.elements.now
+  pub count : p'.chains.tables.count ≡ p.chains.tables.count
+  pub links : drop p.chains.tables.count p'.chains.tables.links.now ≡ drop p.chains.tables.count p.chains.tables.links.now
+  pub records : drop p.chains.tables.count p'.elements.now ≡ drop p.chains.tables.count p.elements.now

@@ -1,6 +1,5 @@
 // The one struct that carries the invariant.
-ghost use Rattle.std.specs.Prelude.{◌≤◌, length};
-ghost use Rattle.chain.specs.View.{Sound};
+ghost use Rattle.std.specs.Prelude.{◌≤◌};
 
 use make::Make;
 use pool::Pool;
@@ -9,7 +8,5 @@ use pool::Pool;
 #[derive(Drop)]
 pub struct Memory<'a, M: Make> {
     pub(crate) pool: Pool<'a, M::Record>,
-    ghost few: { pool.chains.count ≤ 45000 },
-    ghost roomy: { pool.chains.count ≤ length pool.elements.now },
-    ghost sound: { Sound pool.chains },
+    ghost few: { pool.chains.tables.count ≤ 45000 },
 }

@@ -7,4 +7,4 @@ pub returns : goal.returns
 unfolding store_of
 returns g c =
     let m = c.args.self.now in
-    record { value = c.count.ensures ∙ sym (held_length (meaning g.M.Make) m.pool.chains.count m.pool.elements.now m.roomy); bound = omega (arith, c.count.ensures, m.few) }
+    record { value = c.count.ensures ∙ sym (held_length (meaning g.M.Make) m.pool.chains.tables.count m.pool.elements.now m.pool.roomy); bound = omega (arith, c.count.ensures, m.few) }

@@ -5,7 +5,7 @@ use Rattle.memory.proofs.memory.Memory.delete.Goals as goal
 
 pub delete-requires : goal.delete-requires
 unfolding store_of
-delete-requires g c = record { sound = c.args.self.now.sound; used = c.requires.living }
+delete-requires g c = c.requires.living
 
 pub returns : goal.returns
 unfolding store_of
@@ -14,7 +14,7 @@ returns g c =
     let q = c.delete.new.self in
     let mean = meaning g.M.Make in
     record {
-      store = same_store _ _ _ _ c.delete.ensures.blocks (ap (λ z. map mean (take z q.elements.now)) c.delete.ensures.count ∙ ap (λ z. map mean (take p.chains.count z)) c.delete.ensures.elements);
+      store = same_store _ _ _ _ c.delete.ensures.blocks (ap (λ z. map mean (take z q.elements.now)) c.delete.ensures.spared.count ∙ ap (λ z. map mean (take p.chains.tables.count z)) c.delete.ensures.elements);
       records = c.delete.ensures.elements;
-      spared = record { count = c.delete.ensures.count; links = c.delete.ensures.later; records = ap (drop p.chains.count) c.delete.ensures.elements };
+      spared = record { count = c.delete.ensures.spared.count; links = c.delete.ensures.spared.later; records = ap (drop p.chains.tables.count) c.delete.ensures.elements };
     }

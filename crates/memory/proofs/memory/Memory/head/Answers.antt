@@ -6,8 +6,8 @@ use Rattle.memory.proofs.memory.Memory.head.Goals as goal
 
 pub head-requires : goal.head-requires
 unfolding store_of
-head-requires g c = record { sound = c.args.self.now.sound; living = c.requires.living }
+head-requires g c = c.requires.living
 
 pub returns : goal.returns
 unfolding store_of
-returns g c = let m = c.args.self.now in record { value = number_is _ _ c.head.ensures; proper = proper _ _ c.head.ensures (omega (arith, head_bound m.pool.chains m.sound (number c.args.chain), m.few)) }
+returns g c = let m = c.args.self.now in record { value = number_is _ _ c.head.ensures; proper = proper _ _ c.head.ensures (omega (arith, head_bound m.pool.chains (number c.args.chain), m.few)) }

@@ -8,7 +8,7 @@ unfolding store_of
 returns-in-Some g c =
     let m = c.args.self.now in
     let same = c.place-in-Some.ensures ∙ some_place _ c.in-Some.place (sym c.in-Some.is ∙ c.place.ensures) in
-    record { value = same; bound = omega (arith, same, place_bound m.pool.chains m.sound c.args.x.number, m.few) }
+    record { value = same; bound = omega (arith, same, place_bound m.pool.chains c.args.x.number, m.few) }
 
 pub returns-in-None : goal.returns-in-None
 unfolding store_of

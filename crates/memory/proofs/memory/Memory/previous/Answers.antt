@@ -5,4 +5,4 @@ use Rattle.memory.proofs.memory.Memory.previous.Goals as goal
 
 pub returns : goal.returns
 unfolding store_of
-returns g c = let m = c.args.self.now in record { value = number_is _ _ c.previous.ensures; proper = proper _ _ c.previous.ensures (omega (arith, previous_bound m.pool.chains m.sound c.args.x.number, m.few)) }
+returns g c = let m = c.args.self.now in record { value = number_is _ _ c.previous.ensures; proper = proper _ _ c.previous.ensures (omega (arith, previous_bound m.pool.chains c.args.x.number, m.few)) }

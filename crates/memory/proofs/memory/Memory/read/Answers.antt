@@ -6,7 +6,7 @@ use Rattle.memory.proofs.memory.Memory.read.Goals as goal
 
 pub read-requires : goal.read-requires
 unfolding store_of
-read-requires g c = let m = c.args.self.now in record { sound = m.sound; roomy = m.roomy; used = c.requires.living }
+read-requires g c = c.requires.living
 
 pub returns : goal.returns
 unfolding store_of
@@ -14,5 +14,5 @@ returns g c =
     let m = c.args.self.now in
     let p = m.pool in
     let x = c.args.x.number in
-    let u = used_bound p.chains m.sound x c.requires.living in
-    record { value = held_at (meaning g.M.Make) p.chains.count (x - 1) p.elements.now c.read.result _ (omega (arith, u)) m.roomy c.read.ensures }
+    let u = used_bound p.chains x c.requires.living in
+    record { value = held_at (meaning g.M.Make) p.chains.tables.count (x - 1) p.elements.now c.read.result _ (omega (arith, u)) m.pool.roomy c.read.ensures }

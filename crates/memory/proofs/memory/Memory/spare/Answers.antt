@@ -5,4 +5,4 @@ use Rattle.memory.proofs.memory.Memory.spare.Goals as goal
 
 pub returns : goal.returns
 unfolding store_of
-returns g c = let m = c.args.self.now in record { value = c.spare.ensures; bound = omega (arith, c.spare.ensures, spare_bound m.pool.chains m.sound, m.few) }
+returns g c = let m = c.args.self.now in record { value = c.spare.ensures; bound = omega (arith, c.spare.ensures, spare_bound m.pool.chains, m.few) }

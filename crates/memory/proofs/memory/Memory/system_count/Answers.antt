@@ -5,4 +5,4 @@ use Rattle.memory.proofs.memory.Memory.system_count.Goals as goal
 
 pub returns : goal.returns
 unfolding store_of
-returns g c = let m = c.args.self.now in record { value = c.len.ensures; bound = omega (arith, c.len.ensures, length_bound m.pool.chains m.sound 0, m.few) }
+returns g c = let m = c.args.self.now in record { value = c.len.ensures; bound = omega (arith, c.len.ensures, length_bound m.pool.chains 0, m.few) }

@@ -6,8 +6,8 @@ use Rattle.memory.proofs.memory.Memory.tail.Goals as goal
 
 pub tail-requires : goal.tail-requires
 unfolding store_of
-tail-requires g c = record { sound = c.args.self.now.sound; living = c.requires.living }
+tail-requires g c = c.requires.living
 
 pub returns : goal.returns
 unfolding store_of
-returns g c = let m = c.args.self.now in record { value = number_is _ _ c.tail.ensures; proper = proper _ _ c.tail.ensures (omega (arith, tail_bound m.pool.chains m.sound (number c.args.chain), m.few)) }
+returns g c = let m = c.args.self.now in record { value = number_is _ _ c.tail.ensures; proper = proper _ _ c.tail.ensures (omega (arith, tail_bound m.pool.chains (number c.args.chain), m.few)) }
