@@ -4,7 +4,7 @@ use Rattle.apart.proofs.calls.write.Goals as goal
 
 pub returns-then-out-lt-LEAST_BUFFER-clause-links :
     goal.returns-then-out-lt-LEAST_BUFFER-clause-links
-returns-then-out-lt-LEAST_BUFFER-clause-links g c = let n = c.args.memory.now in λ i low high. link_is n.pool.chains n.sound i low high
+returns-then-out-lt-LEAST_BUFFER-clause-links g c = let n = c.args.memory.now in λ i low high. link_is n.pool.chains.tables n.pool.chains.sound i low high
 
 pub returns-clause-links : goal.returns-clause-links
-returns-clause-links g c = let n = c.spend-answer.new.memory in λ i low high. link_is n.pool.chains n.sound i low high
+returns-clause-links g c = let n = c.spend-answer.new.memory in λ i low high. link_is n.pool.chains.tables n.pool.chains.sound i low high
