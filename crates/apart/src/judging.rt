@@ -69,9 +69,7 @@ fn judge_parts<M: Make>(
     let command = parts.command;
     match (command.takes(), session.mode) {
         (Takes::RecordOf(_), Mode::Off) => Err(Refusal::ModeOff),
-        (Takes::RecordOf(kind), Mode::On) => {
-            judge_count(memory, command, kind, parts.arguments)
-        }
+        (Takes::RecordOf(kind), Mode::On) => { judge_count(memory, command, kind, parts.arguments) }
         _ => Err(Refusal::Wrong),
     }
 }

@@ -1,5 +1,5 @@
 -- Bytes and fields of a line, step by step. Assumes nothing.
-use Rattle.std.proofs.Common.{◌≡◌, ℕ, ◌+◌, ◌<◌, ◌≤◌, true, false, cond, ◌&&◌, eqb, List, [], ◌∷◌, length, get_or, drop, length-drop, ltb, Some, None, Option, refl, ap, arith}
+use Rattle.std.proofs.Common.{◌≡◌, ℕ, ◌+◌, ◌<◌, ◌≤◌, true, false, cond, ◌&&◌, eqb, List, [], ◌∷◌, length, drop, length-drop, ltb, Some, None, Option, refl, ap, arith}
 use Rattle.text.specs.declared.field.Fields.{Fields}
 use Rattle.std.proofs.lemmas.Iterator.{YieldsList}
 use Rattle.std.proofs.lemmas.Iterator.Consumers.{YieldsList-from_shown}
@@ -7,10 +7,7 @@ use Rattle.text.specs.Fields.{cuts_from, fields_left, text_of, HandsOut}
 use Rattle.std.specs.List.{list_all}
 use Rattle.text.specs.Cuts.{cuts, glue}
 use Rattle.std.specs.Int.{is_in_range}
-use Rattle.make.specs.declared.kind.Kind.{Kind}
-use Rattle.make.specs.Data.{MakeSpec, legal_at}
 use Rattle.ledger.specs.Lines.{printable}
-use Rattle.ledger.specs.Texts.{field_legal}
 
 pub printable_all : (t : List ℕ) → printable t ≡ list_all (is_in_range 32 126) t
 printable_all [] = refl

@@ -1,7 +1,5 @@
 -- A part of the sheet, row by row. Assumes nothing.
-use Rattle.std.proofs.Common.{◌≡◌, ℕ, suc, ◌+◌, ◌<◌, Bool, true, false, cond, List, [], ◌∷◌, ◌++◌, length, Some, None, decimal, Option, sym, refl, ap, ◌∙◌, append_assoc, append-nil, add-one, arith, length-append}
-use Rattle.chain.specs.declared.link.Index.{Index}
-use Rattle.chain.specs.Entry.{found}
+use Rattle.std.proofs.Common.{◌≡◌, ℕ, suc, ◌+◌, ◌<◌, Bool, true, false, cond, List, [], ◌∷◌, ◌++◌, length, decimal, sym, refl, ap, ◌∙◌, append_assoc, append-nil, add-one, arith, length-append}
 use Rattle.make.specs.declared.kind.Kind.{Kind}
 use Rattle.make.specs.Data.{MakeSpec}
 use Rattle.chain.specs.Blocks.{next_in, prev_in}
@@ -50,9 +48,3 @@ module _ (S : MakeSpec) (L : Store) (k : Kind) where
 
   pub row_none : (i : ℕ) → is_row L k (i + 1) ≡ false → rows_to S L k (i + 1) ≡ rows_to S L k i
   row_none i is = ap (rows_to S L k) (add-one i) ∙ ap (λ b. rows_to S L k i ++ cond b (row S L (suc i)) []) (ap (is_row L k) (sym (add-one i)) ∙ is) ∙ append-nil (rows_to S L k i)
-
-pub found_next : (n : ℕ) (x : Option Index) → x ≡ found (n + 1) → x ≡ None → ⊥
-found_next n x e none = let f : None ≡ found (suc n) = sym none ∙ e ∙ ap found (add-one n) in let z : ◌≡◌ {A = ℕ} 0 1 = cc in omega arith
-
-pub found_number : (n : ℕ) (i : Index) → Some i ≡ found (n + 1) → i.number ≡ n + 1
-found_number n i e = let f : Some i ≡ found (suc n) = e ∙ ap found (add-one n) in ap (λ (z : Index). z.number) (let h : i ≡ record { number = suc n } = cc in h) ∙ sym (add-one n)

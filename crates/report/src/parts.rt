@@ -1,5 +1,5 @@
 // The parts of the sheet, one kind after the other.
-ghost use Rattle.std.specs.Prelude.{◌≡◌, ◌+◌, ◌<◌, ◌≤◌, true, false, [], ◌∷◌, ◌++◌, length, take, if◌then◌else◌, OnOk};
+ghost use Rattle.std.specs.Prelude.{◌≡◌, ◌+◌, ◌<◌, ◌≤◌, true, false, [], ◌∷◌, ◌++◌, length, take, if◌then◌else◌, MatchOption, OnOk};
 ghost use Rattle.ledger.specs.Ledger.{living};
 ghost use Rattle.memory.specs.View.{store_of};
 ghost use Rattle.sheet.specs.Sheet.{names, row, is_row, part, parts_of, sheet};
@@ -53,15 +53,17 @@ fn add_row<M: Make>(memory: &Memory<'_, M>, x: Index, out: &mut Vec<u8>) -> Resu
     out.extend_from_slice(&buffer[0..n])
 }
 
-// Whether block `x` holds a record of a kind.
-fn is_row<M: Make>(memory: &Memory<'_, M>, kind: Kind, x: Index) -> bool
-    ensures { result ≡ is_row (store_of M.Make memory.now.pool) kind x.number }
+// The block of that number, if it holds a record of a kind.
+fn row_at<M: Make>(memory: &Memory<'_, M>, kind: Kind, number: u32) -> Option<Index>
+    requires block { 1 ≤ number }
+    ensures { MatchOption result (is_row (store_of M.Make memory.now.pool) kind number ≡ false) (λ x. (x.number ≡ number) × (is_row (store_of M.Make memory.now.pool) kind number ≡ true)) }
 {
-    if !memory.is_living(x) {
-        return false;
+    let x = Index::new(number)?;
+    if memory.is_living(x) && kind == M::kind(&memory.read(x)) {
+        Some(x)
+    } else {
+        None
     }
-    let record = memory.read(x);
-    kind == M::kind(&record)
 }
 
 // Adds the row of record `x`, and before it the names of its kind where they do not stand yet.
@@ -91,10 +93,8 @@ fn add_part<M: Make>(
     ensures { OnOk result (out.new.items ≡ out.old.items ++ part M.Make.spec (store_of M.Make memory.now.pool) kind) }
 {
     let mut named = false;
-    for number in 1..=memory.count() {
-        if let Some(x) = Index::new(number)
-            && is_row(memory, kind, x)
-        {
+    for before in 0..memory.count() {
+        if let Some(x) = row_at(memory, kind, before + 1) {
             add_named_row(memory, kind, x, named, out)?;
             named = true;
         }
