@@ -1,5 +1,5 @@
 -- What a make fixes, as data. Assumes nothing.
-use Rattle.std.specs.Prelude.{ℕ, ◌+◌, Bool, false, cond, List, [], ◌∷◌, Some, None, codes, Option, ◌==◌, slice_index_or}
+use Rattle.std.specs.Prelude.{ℕ, ◌+◌, Bool, false, cond, List, [], ◌∷◌, map, Some, None, codes, Option, ◌==◌, slice_index_or}
 use Rattle.std.specs.Str.{bytes_eq}
 use Rattle.make.specs.declared.kind.Kind.{Kind}
 
@@ -55,8 +55,7 @@ standard_at S k f t = (field_at S k f).standard t
 
 -- the starting texts of a kind
 abbrev pub starts_in : List FieldSpec → List (List ℕ)
-starts_in [] = []
-starts_in (F ∷ Fs) = F.starting ∷ starts_in Fs
+starts_in Fs = map (λ F. F.starting) Fs
 
 -- the texts that a new record of a kind shows
 abbrev pub starts_of : MakeSpec → Kind → List (List ℕ)

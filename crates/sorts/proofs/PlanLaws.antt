@@ -1,8 +1,12 @@
 -- A table of sorts that passes its test is a make that keeps the rules. Assumes nothing.
-use Rattle.std.proofs.Common.{◌≡◌, ℕ, zero, suc, ◌<◌, ◌≤◌, Bool, true, false, not, ◌&&◌, leb, List, [], ◌∷◌, length, get_or, sym, refl, ap, ◌∙◌, arith}
+use Rattle.std.proofs.Common.{◌≡◌, ℕ, zero, suc, ◌<◌, ◌≤◌, Bool, true, false, not, ◌&&◌, leb, List, [], ◌∷◌, length, get_or, sym, refl, ap, ◌∙◌, ⊎_elim, arith}
 use Rattle.std.specs.Str.{bytes_eq}
+use Rattle.std.specs.List.{list_all}
+use Rattle.std.proofs.Math.ListN.{get_or-map}
+use Rattle.std.proofs.lemmas.List.{length-map}
+use Rattle.std.proofs.lemmas.List.Folds.{list_all_at}
 use Rattle.std.proofs.lemmas.Slice.Eq.{bytes_eq-Decides}
-use Rattle.std.proofs.lemmas.Bool.{and_parts, both_ways, leb-true, not-true}
+use Rattle.std.proofs.lemmas.Bool.{and_parts, both_ways, cases_Bool, leb-true, not-true}
 use Rattle.make.specs.declared.kind.Kind.{Kind}
 use Rattle.make.specs.declared.kind.Kind.TheVariants.{System, Site, ChannelGroup, TalkgroupGroup, Channel, Talkgroup, TrunkFrequency}
 use Rattle.make.specs.Data.{reserve, reserve_name, name_at, legal_at, standard_at}
@@ -39,11 +43,6 @@ rows_keep [] h f = reserve_keeps
 rows_keep (R ∷ Rs) h zero = row_keeps R (and_parts (row_fine R) (rows_fine Rs) h).0
 rows_keep (R ∷ Rs) h (suc f) = rows_keep Rs (and_parts (row_fine R) (rows_fine Rs) h).1 f
 
--- as many fields as rows
-length_fields : (Rs : List Row) → length (fields_from Rs) ≡ length Rs
-length_fields [] = refl
-length_fields (R ∷ Rs) = ap suc (length_fields Rs)
-
 record PartKeeps (p : Part) : Type 0 where
   one_field : 1 ≤ length (fields_from p.rows)
   few_fields : length (fields_from p.rows) ≤ 20
@@ -55,22 +54,21 @@ part_keeps p h =
     let a = and_parts (leb 1 (length p.rows) && leb (length p.rows) 20) _ h in
     let b = and_parts (leb 1 (length p.rows)) (leb (length p.rows) 20) a.0 in
     let c = and_parts (leb p.first (length p.rows)) (rows_fine p.rows) a.1 in
-    let n = length_fields p.rows in
+    let n = length-map p.rows field_of in
     let low = leb-true 1 (length p.rows) b.0 in
     let high = leb-true (length p.rows) 20 b.1 in
     let first = leb-true p.first (length p.rows) c.0 in
     record { one_field = omega arith; few_fields = omega arith; fronted = omega arith; field = rows_keep p.rows c.1 }
 
--- names of types
-names_typed : (ts : List (List ℕ)) → names_fine ts ≡ true → (n : ℕ) → n < length ts → type_name (get_or ts n []) ≡ true
-names_typed [] h n l = absurd (omega arith)
-names_typed (t ∷ ts) h zero l = (and_parts (type_name t) (names_fine ts) h).0
-names_typed (t ∷ ts) h (suc n) l = names_typed ts (and_parts (type_name t) (names_fine ts) h).1 n (omega arith)
+-- an element of a list whose elements all pass a test
+passes : {X : Type 0} (p : X → Bool) (xs : List X) (d : X) → list_all p xs ≡ true → (n : ℕ) → n < length xs → p (get_or xs n d) ≡ true
+passes p xs d h n l = ⊎_elim (λ e. e) (λ e. absurd (both_ways (list_all p xs) (list_all_at p xs n d l e) h)) (cases_Bool (p (get_or xs n d)))
 
+-- names of types
 none_at : (t : List ℕ) (us : List (List ℕ)) → none t us ≡ true → (n : ℕ) → n < length us → t ≡ get_or us n [] → ⊥
-none_at t [] h n l e = omega arith
-none_at t (u ∷ us) h zero l e = both_ways (bytes_eq t u) (not-true (bytes_eq t u) (and_parts (not (bytes_eq t u)) (none t us) h).0) ((bytes_eq-Decides t u).1 e)
-none_at t (u ∷ us) h (suc n) l e = none_at t us (and_parts (not (bytes_eq t u)) (none t us) h).1 n (omega arith) e
+none_at t us h n l e =
+    let u = get_or us n [] in
+    both_ways (bytes_eq t u) (not-true (bytes_eq t u) (passes (λ u. not (bytes_eq t u)) us [] h n l)) ((bytes_eq-Decides t u).1 e)
 
 names_apart : (ts : List (List ℕ)) → apart ts ≡ true → (m n : ℕ) → m < n → n < length ts → get_or ts m [] ≡ get_or ts n [] → ⊥
 names_apart [] h m n l k e = omega arith
@@ -117,7 +115,7 @@ plan_keeps P h =
       bounded = leb-true P.most 45000 p.most.1;
       two_types = leb-true 2 (length P.types) p.few.0;
       few_types = leb-true (length P.types) 12 p.few.1;
-      typed = names_typed P.types p.names.0;
+      typed = passes type_name P.types [] p.names.0;
       apart = names_apart P.types p.names.1;
       groups = refl;
       one_field = λ k. (p.kinds k).one_field;
@@ -128,9 +126,7 @@ plan_keeps P h =
 
 -- the field of a number is the one that its row says
 field_at : (Rs : List Row) (f : ℕ) → get_or (fields_from Rs) f reserve ≡ field_of (get_or Rs f reserve_row)
-field_at [] f = refl
-field_at (R ∷ Rs) zero = refl
-field_at (R ∷ Rs) (suc f) = field_at Rs f
+field_at Rs f = get_or-map field_of Rs f reserve_row
 
 pub legal_at_lem : (P : Plan) (k : Kind) (f : ℕ) (t : List ℕ) → legal_at (spec_of P) k f t ≡ legal_in (sort_at P k f) t
 legal_at_lem P k f t = ap (λ F. F.legal t) (field_at (part_of P k).rows f)

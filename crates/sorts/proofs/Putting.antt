@@ -1,5 +1,6 @@
 -- A text put into one of several settings shows in its field alone. Assumes nothing.
 use Rattle.std.proofs.Common.{◌≡◌, ℕ, zero, suc, true, cond, List, [], ◌∷◌, map, length, get_or, set, sym, refl, ap, ◌∙◌, arith}
+use Rattle.std.proofs.Math.ListN.{get_or-map}
 use Rattle.sorts.specs.declared.sort.Sort.{Sort}
 use Rattle.sorts.specs.declared.sort.Sort.TheVariants.{Name, Number, Flag, Delay, Offset, QuickKey, Tag, Frequency, Modulation, Reserve}
 use Rattle.sorts.specs.Values.{flag_of, flag_text}
@@ -28,8 +29,7 @@ shown_standard Reserve t h = refl
 
 -- the text that shows it in each row
 abbrev pub shown_by : List Row → List ℕ → List (List ℕ)
-shown_by [] t = []
-shown_by (R ∷ Rs) t = shown_in R.sort t ∷ shown_by Rs t
+shown_by Rs t = map (λ R. shown_in R.sort t) Rs
 
 -- the texts xs with, in turn, one of them replaced by that of us
 abbrev pub replaced : List (List ℕ) → List (List ℕ) → List (List (List ℕ))
@@ -37,23 +37,16 @@ replaced [] us = []
 replaced (x ∷ xs) [] = []
 replaced (x ∷ xs) (u ∷ us) = (u ∷ xs) ∷ map (λ ys. x ∷ ys) (replaced xs us)
 
-at_map : {X Y : Type 0} (g : X → Y) (xs : List X) (f : ℕ) (d : X) → get_or (map g xs) f (g d) ≡ g (get_or xs f d)
-at_map g [] f d = refl
-at_map g (x ∷ xs) zero d = refl
-at_map g (x ∷ xs) (suc f) d = at_map g xs f d
-
 replaced_at : (xs us : List (List ℕ)) (f : ℕ) → length us ≡ length xs → get_or (replaced xs us) f xs ≡ set xs f (get_or us f [])
 replaced_at [] us f h = refl
 replaced_at (x ∷ xs) [] f h = absurd (omega arith)
 replaced_at (x ∷ xs) (u ∷ us) zero h = refl
-replaced_at (x ∷ xs) (u ∷ us) (suc f) h = at_map (λ ys. x ∷ ys) (replaced xs us) f xs ∙ ap (λ ys. x ∷ ys) (replaced_at xs us f (omega arith))
+replaced_at (x ∷ xs) (u ∷ us) (suc f) h = get_or-map (λ ys. x ∷ ys) (replaced xs us) f xs ∙ ap (λ ys. x ∷ ys) (replaced_at xs us f (omega arith))
 
 shown_at : (Rs : List Row) (t : List ℕ) (f : ℕ) → get_or (shown_by Rs t) f [] ≡ shown_in (get_or Rs f reserve_row).sort t
-shown_at [] t f = refl
-shown_at (R ∷ Rs) t zero = refl
-shown_at (R ∷ Rs) t (suc f) = shown_at Rs t f
+shown_at Rs t f = get_or-map (λ R. shown_in R.sort t) Rs f reserve_row
 
 -- settings of any sort that show, after a text for each field, the texts before with the value of that text in place
 pub put_shown : {S : Type 0} (texts : S → List (List ℕ)) (Rs : List Row) (s : S) (puts : List S) (t : List ℕ) → map texts puts ≡ replaced (texts s) (shown_by Rs t) → length (shown_by Rs t) ≡ length (texts s) → (f : ℕ) → legal_in (get_or Rs f reserve_row).sort t ≡ true → texts (written_in Rs s puts f t) ≡ set (texts s) f (standard_in (get_or Rs f reserve_row).sort t)
 put_shown texts Rs s puts t e n f h =
-    ap (λ b. texts (cond b (get_or puts f s) s)) h ∙ sym (at_map texts puts f s) ∙ ap (λ xs. get_or xs f (texts s)) e ∙ replaced_at (texts s) (shown_by Rs t) f n ∙ ap (set (texts s) f) (shown_at Rs t f ∙ shown_standard (get_or Rs f reserve_row).sort t h)
+    ap (λ b. texts (cond b (get_or puts f s) s)) h ∙ sym (get_or-map texts puts f s) ∙ ap (λ xs. get_or xs f (texts s)) e ∙ replaced_at (texts s) (shown_by Rs t) f n ∙ ap (set (texts s) f) (shown_at Rs t f ∙ shown_standard (get_or Rs f reserve_row).sort t h)

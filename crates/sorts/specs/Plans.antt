@@ -1,6 +1,7 @@
 -- A make as a table of sorts. Assumes nothing.
-use Rattle.std.specs.Prelude.{ℕ, Bool, true, false, not, ◌&&◌, List, [], ◌∷◌, length, nat_le, slice_index_or}
+use Rattle.std.specs.Prelude.{ℕ, Bool, true, false, not, ◌&&◌, List, [], ◌∷◌, map, length, nat_le, slice_index_or}
 use Rattle.std.specs.Str.{bytes_eq}
+use Rattle.std.specs.List.{list_all}
 use Rattle.make.specs.declared.kind.Kind.{Kind}
 use Rattle.make.specs.declared.kind.Kind.TheVariants.{System, Site, ChannelGroup, TalkgroupGroup, Channel, Talkgroup, TrunkFrequency}
 use Rattle.make.specs.Data.{FieldSpec, Layout, MakeSpec, reserve_name}
@@ -62,8 +63,7 @@ field_of R = record { name = R.name; legal = legal_in R.sort; standard = standar
 
 -- the fields that rows say
 abbrev pub fields_from : List Row → List FieldSpec
-fields_from [] = []
-fields_from (R ∷ Rs) = field_of R ∷ fields_from Rs
+fields_from Rs = map field_of Rs
 
 -- the fields of a kind that a part says
 abbrev pub layout_of : Part → Layout
@@ -84,8 +84,7 @@ row_fine R = field_name R.name && (same (bytes_eq R.name reserve_name) (is_reser
 
 -- every row passes
 abbrev pub rows_fine : List Row → Bool
-rows_fine [] = true
-rows_fine (R ∷ Rs) = row_fine R && rows_fine Rs
+rows_fine Rs = list_all row_fine Rs
 
 -- 1 to 20 rows, the first part at most all of them, and every row passes
 abbrev pub part_fine : Part → Bool
@@ -93,13 +92,11 @@ part_fine p = (nat_le 1 (length p.rows) && nat_le (length p.rows) 20) && (nat_le
 
 -- every name is fit for a type
 abbrev pub names_fine : List (List ℕ) → Bool
-names_fine [] = true
-names_fine (t ∷ ts) = type_name t && names_fine ts
+names_fine ts = list_all type_name ts
 
 -- a name is none of the others
 abbrev pub none : List ℕ → List (List ℕ) → Bool
-none t [] = true
-none t (u ∷ us) = not (bytes_eq t u) && none t us
+none t us = list_all (λ u. not (bytes_eq t u)) us
 
 -- no name stands twice
 abbrev pub apart : List (List ℕ) → Bool

@@ -15,7 +15,7 @@ pub fn read_between(text: &[u8], low: u32, high: u32) -> Option<u32>
     read_number(text).filter(|n| low <= *n && *n <= high)
 }
 
-// The same of a number that a byte holds.
+// The same of a number that a byte holds; one function for both widths would need a trait that says what a number means, and be no plainer.
 pub fn read_small(text: &[u8], low: u8, high: u8) -> Option<u8>
     ensures value { result ≡ (if is_between low high text.now then Some (value text.now) else None) }
 {
