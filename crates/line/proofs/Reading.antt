@@ -1,9 +1,11 @@
 -- Bytes and fields of a line, step by step. Assumes nothing.
-use Rattle.std.proofs.Common.{◌≡◌, ℕ, ◌+◌, ◌<◌, ◌≤◌, true, false, cond, ◌&&◌, eqb, List, [], ◌∷◌, length, drop, length-drop, ltb, Some, None, Option, refl, ap, arith}
+use Rattle.std.proofs.Common.{◌≡◌, ℕ, ◌+◌, ◌^◌, ◌<◌, ◌≤◌, true, false, cond, ◌&&◌, eqb, List, [], ◌∷◌, length, drop, length-drop, ltb, Some, None, Option, refl, ap, ◌∙◌, arith}
 use Rattle.text.specs.declared.field.Fields.{Fields}
 use Rattle.std.proofs.lemmas.Iterator.{YieldsList}
 use Rattle.std.proofs.lemmas.Iterator.Consumers.{YieldsList-from_shown}
 use Rattle.text.specs.Fields.{cuts_from, fields_left, text_of, HandsOut}
+use Rattle.std.specs.declared.iter.Enumerate.{Enumerate}
+use Rattle.std.specs.Iterator.Adapters.{enumerate_source, enumerate_count}
 use Rattle.std.specs.List.{list_all}
 use Rattle.text.specs.Cuts.{cuts, glue}
 use Rattle.std.specs.Int.{is_in_range}
@@ -33,6 +35,12 @@ few_from line (Some at) = elim (ltb (length line) at) as (λ b. length (cond b [
 
 pub few_left : (f : Fields) → length (fields_left f) ≤ length f.line.now + 1
 few_left f = few_from f.line.now f.start
+
+-- so its fields can be numbered
+pub numbered : (i j : Enumerate Fields) (f : Fields) → i ≡ j → enumerate_source j ≡ f → enumerate_count j ≡ 0 → length f.line.now < 2 ^ 63 → enumerate_count i + length (fields_left (enumerate_source i)) < 2 ^ 64
+numbered i j f same source none room =
+    let left = ap (λ k. length (fields_left (enumerate_source k))) same ∙ ap (λ f. length (fields_left f)) source in
+    omega (arith, ap enumerate_count same, left, few_left f)
 
 -- a cursor gives the fields that it has still to hand out
 pub hands_out : (f : Fields) → YieldsList HandsOut text_of f (fields_left f)

@@ -1,6 +1,5 @@
 -- Laws of text put into a buffer. Assumes nothing.
 use Rattle.std.proofs.Common.{◌≡◌, ℕ, ◌+◌, ◌≤◌, List, ◌++◌, length, take, drop, sym, ap, ◌∙◌, append_assoc, arith, length-append}
-use borrow.Rule.Slice.PartMut.{put_mid}
 use Rattle.std.proofs.lemmas.List.{drop-drop, take_at, drop_at, length-take-le}
 use Rattle.text.specs.Buffer.{put}
 
@@ -14,6 +13,3 @@ put_put o a b at h =
     let rest : drop (at + length a + length b) (put o at a) ≡ drop (at + length a + length b) o = sym (drop-drop (length b) (at + length a) (put o at a)) ∙ ap (drop (length b)) back ∙ drop-drop (length b) (at + length a) o in
     let sum : at + length a + length b ≡ at + length (a ++ b) = omega (arith, length-append a b) in
     ap (λ z. z ++ (b ++ drop (at + length a + length b) (put o at a))) front ∙ ap (λ z. (take at o ++ a) ++ (b ++ z)) rest ∙ append_assoc (take at o) a (b ++ drop (at + length a + length b) o) ∙ ap (λ z. take at o ++ z) (sym (append_assoc a b (drop (at + length a + length b) o))) ∙ ap (λ n. take at o ++ ((a ++ b) ++ drop n o)) sum
-
-pub part_put : (x t : List ℕ) (p : ℕ) → put_mid p (length t) x t ≡ put x p t
-part_put x t p = ap (λ z. take p x ++ (t ++ z)) (drop-drop (length t) p x)

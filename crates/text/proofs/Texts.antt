@@ -9,7 +9,6 @@ use Rattle.std.proofs.lemmas.Nat.{div_below}
 use Rattle.std.proofs.lemmas.Str.Parse.{IsNumeralModel, numerals_by_fold, digits_value_short}
 use Rattle.std.proofs.lemmas.Fmt.{decimal_digit, decimal_step, digits_decimal, digits_value-decimal, length-decimal-le, decimal_nonempty}
 use Rattle.text.specs.Number.{read_on, fixed, is_number, number_in, value}
-use Rattle.text.specs.Frequency.{in_band}
 
 pub own : IsNumeralModel (λ ds. all_ascii_digits ds ≡ true) (read_on 0)
 own = numerals_by_fold _ (search rules) read_on (search rules)
@@ -71,10 +70,6 @@ decimal_value n h = digits_value-decimal own n (omega arith)
 
 pub eight_number : (n : ℕ) → is_number 8 (fixed 8 n) ≡ true
 eight_number n = is_number_from 8 (fixed 8 n) (omega (arith, length-fixed 8 n)) (omega (arith, length-fixed 8 n)) (digits_fixed 8 n)
-
--- a frequency has at most eight digits
-pub band_below : (n : ℕ) → in_band n ≡ true → n < 10 ^ 8
-band_below n h = grind (arith, nat_tests)
 
 from_some : {A : Type 0} (b : Bool) (z w : A) → Some z ≡ cond b (Some w) None → (b ≡ true) × (z ≡ w)
 from_some true z w e = (refl, cc)
