@@ -53,10 +53,6 @@ pub last_within : (f : ℕ → Entry) (n : ℕ) (xs : List ℕ) → Row f n 0 xs
 last_within f n [] r = omega arith
 last_within f n (x ∷ xs) r = (within f n 0 (x ∷ xs) 0 r _ (last_in 0 x xs)).1
 
-pub head_within : (f : ℕ → Entry) (n : ℕ) (xs : List ℕ) → Row f n 0 xs 0 → head_or 0 xs ≤ n
-head_within f n [] r = omega arith
-head_within f n (x ∷ xs) r = r.0.upto
-
 pub front_in : (n : ℕ) (f : ℕ → Entry) (xs : List ℕ) → Stack f n xs → head_or 0 xs ≤ n
 front_in n f [] s = omega arith
 front_in n f (x ∷ xs) s = s.0.upto

@@ -1,6 +1,5 @@
 -- The writes of one move put together. Assumes nothing.
 use Rattle.std.proofs.Common.{◌≡◌, ℕ, ◌+◌, ◌-◌, ◌<◌, ◌≤◌, List, [], length, get_or, drop, set, is_some, Some, sym, refl, ap, ◌∙◌, subst, arith, length-set}
-use Rattle.std.proofs.lemmas.List.{drop-set-lt}
 use Rattle.std.proofs.lemmas.Bool.{false≢true}
 use Rattle.chain.specs.declared.link.Chain.{Chain}
 use Rattle.chain.specs.declared.link.Ends.{Ends}
@@ -129,9 +128,6 @@ not_free p x s member (Free n) is none = false≢true (sym (ap (λ l. is_some (e
 not_free p x s member (Used m) is none = none m refl
 
 -- a block was put in front of the free stack
-pub stacked_later : (t t' : List Link) (n x : ℕ) (v : Link) → 1 ≤ x → x ≤ n → t' ≡ set t (x - 1) v → drop n t' ≡ drop n t
-stacked_later t t' n x v x1 xn is = ap (drop n) is ∙ drop-set-lt n t (x - 1) v (omega (arith, x1, xn))
-
 module _ (p p' : Tables) (x : ℕ) (s : Loose p) (x1 : 1 ≤ x) (xn : x ≤ p.count) (out : occ x (free_in p) + occ_all x (chains_in p) ≡ 0) (room : length (free_in p) + total (chains_in p) + 1 ≤ p.count) (first : chain_in p (first_of x) ≡ []) (second : chain_in p (second_of x) ≡ [])
     (links_is : p'.links.now ≡ set p.links.now (x - 1) (Free p.free)) (root_is : p'.root ≡ p.root) (free_is : p'.free ≡ x) (count_is : p'.count ≡ p.count) (spare_is : p'.spare ≡ p.spare + 1) where
   freed : Freeing (link_at p.links.now) (link_at p'.links.now) (ends_at p.root (link_at p.links.now)) (ends_at p'.root (link_at p'.links.now)) x p.free

@@ -126,12 +126,6 @@ module _ (p : Tables) (s : Sound p) where
   pub walk_some : (now : Option Index) (x : Index) → now ≡ Some x → Good p now → ahead (blocks_in p) now ≡ x.number ∷ ahead (blocks_in p) (found (next_in (blocks_in p) x.number))
   walk_some now x here g = (walk_next now _ x here g refl).1
 
-  good_at : (x : Index) → Good p (Some x) → (1 ≤ x.number) × (x.number ≤ p.count)
-  good_at x g = let h = home_some (chains_in p) 0 x.number (ltb-true 0 _ g) in row_within h.c x.number h.there
-
-  pub walk_within : (now : Option Index) (x : Index) → now ≡ Some x → Good p now → (1 ≤ x.number) × (x.number ≤ p.count)
-  walk_within now x here g = good_at x (subst (Good p) here g)
-
 pub walk_end : (L : Blocks) (now : Option Index) → now ≡ None → ahead L now ≡ []
 unfolding ahead
 walk_end L now here = ap (ahead L) here

@@ -68,8 +68,8 @@ impl Ends {
     pub(crate) const NONE: Ends = Ends { head: 0, tail: 0 };
 }
 
-// Entries keep 0 for none: with an `Option` for each of its six numbers an entry would take 64 bytes, and may take 40.
 // A block in a chain: its neighbours by number, 0 for none, its chain, and the ends of the chains of its own members.
+// 0 stays for none: with an `Option` for each of its six numbers an entry would take 64 bytes, and may take 40.
 #[derive(Clone, Copy, PartialEq, Eq)]
 pub struct Member {
     pub(crate) previous: u32,

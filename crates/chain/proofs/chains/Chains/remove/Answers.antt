@@ -6,7 +6,7 @@ use Rattle.chain.specs.Blocks.{occ_all, total}
 use Rattle.chain.specs.Tables.{chains_in}
 use Rattle.chain.proofs.Seen.{loose}
 use Rattle.chain.proofs.Moves.{member_within}
-use Rattle.chain.proofs.Cleared.{left_occ, left_less, left_free, left_total, left_out, left_room, gone_is, sound_from, all_is, full_is, spares_on}
+use Rattle.chain.proofs.Cleared.{left_occ, left_less, left_free, left_total, left_out, left_room, gone_is, sound_from, all_is, full_is}
 use Rattle.chain.proofs.chains.Chains.remove.Goals as goal
 
 pub unlink-requires : goal.unlink-requires
@@ -39,8 +39,8 @@ invariant_of-self c =
           (omega (arith, e.size, left_total p p₁ x s there u.blocks u.spared.count, ap length (left_free p p₁ x s there u.blocks u.spared.count), full_is p c.args.self.now.sound, e.spared.count, u.spared.count));
     }
 
-pub returns : goal.returns
-returns c =
+pub returns-clause-blocks : goal.returns-clause-blocks
+returns-clause-blocks c =
     let p = c.args.self.now.tables in
     let p₁ = c.unlink.new.self in
     let p₂ = c.clear.new.self in
@@ -49,8 +49,16 @@ returns c =
     let there = ltb-true 0 (occ_all x (chains_in p)) c.requires in
     let u = c.unlink.ensures in
     let e = c.clear.ensures in
-    record {
-      blocks = gone_is p p₁ x s there u.blocks u.spared.count p₂ e.blocks (total (chains_in p)) (omega arith);
-      parts = λ i d. omega (arith, e.parts i d, left_less p p₁ x s there u.blocks u.spared.count i d);
-      spared = spares_on u.spared e.spared;
-    }
+    gone_is p p₁ x s there u.blocks u.spared.count p₂ e.blocks (total (chains_in p)) (omega arith)
+
+pub returns-clause-parts : goal.returns-clause-parts
+returns-clause-parts c =
+    let p = c.args.self.now.tables in
+    let p₁ = c.unlink.new.self in
+    let p₂ = c.clear.new.self in
+    let x = c.args.x.number in
+    let s = loose p c.args.self.now.sound in
+    let there = ltb-true 0 (occ_all x (chains_in p)) c.requires in
+    let u = c.unlink.ensures in
+    let e = c.clear.ensures in
+    λ i d. omega (arith, e.parts i d, left_less p p₁ x s there u.blocks u.spared.count i d)

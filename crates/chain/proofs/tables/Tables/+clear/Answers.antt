@@ -1,21 +1,20 @@
 -- What the search leaves to show of `clear`. Assumes nothing.
-use Rattle.std.proofs.Common.{◌+◌, length, sym, ap, ◌∙◌, arith}
-use Rattle.chain.specs.Rows.{occ}
-use Rattle.chain.specs.Blocks.{occ_all, total, pushed, each, removed, chain}
-use Rattle.chain.specs.Entry.{first_of, second_of}
+use Rattle.std.proofs.Common.{sym, ap, ◌∙◌, arith}
+use Rattle.chain.specs.Blocks.{pushed, each, removed, chain}
+use Rattle.chain.specs.Entry.{second_of}
 use Rattle.chain.specs.Tables.{blocks_in}
 use Rattle.chain.proofs.Moves.{top_within, member_within}
-use Rattle.chain.proofs.Cleared.{front_is, front_none, front_there, left_total, left_out, left_room, going_less, going_next, spares_on}
+use Rattle.chain.proofs.Cleared.{front_is, front_none, front_there, left_total, left_out, left_room, going_less, going_next}
 use Rattle.chain.proofs.tables.Tables.+clear.Goals as goal
 
 pub front_member-requires-clause-upto : goal.front_member-requires-clause-upto
 front_member-requires-clause-upto t c = let h = top_within _ c.loop-y.invariant.sure in let n = c.loop-y.invariant.spared.count in omega (arith, c.requires.upto)
 
-pub unlink-requires : goal.unlink-requires
-unlink-requires t c =
+pub unlink-requires-clause-member : goal.unlink-requires-clause-member
+unlink-requires-clause-member t c =
     let p = c.loop-y.self in
     let g = c.loop-y.invariant in
-    record { loose = g.sure; member = front_there p c.args.x.number _ (front_is p c.args.x.number c.in-Some.y g.sure c.requires.from (omega (arith, g.spared.count, c.requires.upto)) c.in-Some.ensures) }
+    front_there p c.args.x.number _ (front_is p c.args.x.number c.in-Some.y g.sure c.requires.from (omega (arith, g.spared.count, c.requires.upto)) c.in-Some.ensures)
 
 pub clear-requires : goal.clear-requires
 clear-requires t c =
@@ -48,28 +47,20 @@ loop-y-preserved t c =
     let e = c.clear.ensures in
     going_next c.args.self.now p c.unlink.new.self c.clear.new.self c.args.x.number y g c.requires.from (omega (arith, c.requires.out)) f u.blocks u.spared e.loose e.blocks e.counts e.size e.fewer e.shrinks e.parts e.others e.spared
 
-pub push-requires : goal.push-requires
-push-requires t c =
-    let p = c.loop-y.self in
+pub push-requires-clause-first : goal.push-requires-clause-first
+push-requires-clause-first t c =
     let g = c.loop-y.invariant in
-    let n = front_none p c.args.x.number g.sure c.requires.from (omega (arith, g.spared.count, c.requires.upto)) c.in_default.ensures in
-    record { loose = g.sure; from = c.requires.from; upto = omega (arith, g.spared.count, c.requires.upto); out = g.counts c.args.x.number ∙ c.requires.out; room = omega (arith, g.size, g.spared.count, c.requires.room); first = n.0; second = n.1 }
+    (front_none c.loop-y.self c.args.x.number g.sure c.requires.from (omega (arith, g.spared.count, c.requires.upto)) c.in_default.ensures).0
 
-pub returns : goal.returns
-returns t c =
+pub push-requires-clause-second : goal.push-requires-clause-second
+push-requires-clause-second t c =
+    let g = c.loop-y.invariant in
+    (front_none c.loop-y.self c.args.x.number g.sure c.requires.from (omega (arith, g.spared.count, c.requires.upto)) c.in_default.ensures).1
+
+pub returns-clause-blocks : goal.returns-clause-blocks
+returns-clause-blocks t c = λ m h.
     let p = c.loop-y.self in
     let x = c.args.x.number in
     let g = c.loop-y.invariant in
     let n = front_none p x g.sure c.requires.from (omega (arith, g.spared.count, c.requires.upto)) c.in_default.ensures in
-    let e = c.push.ensures in
-    record {
-      loose = e.loose;
-      blocks = λ m h. e.blocks ∙ ap (λ z. pushed z x) (sym (ap (λ z. each (removed m) (each (removed m) (blocks_in p) z) (chain (blocks_in p) (second_of x))) n.0 ∙ ap (λ z. each (removed m) (blocks_in p) z) n.1) ∙ g.gone m h);
-      counts = λ i. ap (λ z. occ i z.free + occ_all i z.chains) e.blocks ∙ omega (arith, g.counts i);
-      size = ap (λ z. length z.free + total z.chains) e.blocks ∙ omega (arith, g.size);
-      fewer = omega (arith, ap (λ z. total z.chains) e.blocks, g.fewer);
-      shrinks = λ i. omega (arith, ap (λ z. occ_all i z.chains) e.blocks, g.shrinks i);
-      parts = λ i d. omega (arith, ap (λ z. occ i (chain z d)) e.blocks, g.parts i d);
-      others = λ o o1 ne none. let r = g.others o o1 ne none in (ap (λ z. chain z (first_of o)) e.blocks ∙ r.0, ap (λ z. chain z (second_of o)) e.blocks ∙ r.1);
-      spared = spares_on g.spared e.spared;
-    }
+    c.push.ensures.blocks ∙ ap (λ z. pushed z x) (sym (ap (λ z. each (removed m) (each (removed m) (blocks_in p) z) (chain (blocks_in p) (second_of x))) n.0 ∙ ap (λ z. each (removed m) (blocks_in p) z) n.1) ∙ g.gone m h)

@@ -39,5 +39,5 @@ returns-in-Used c =
       spared = record { count = c.set_ends.ensures.count; later = cut_later p p' c.args.x.number c.requires.loose c.requires.member m c.in-Used.is _ _ e_is c.without.ensures links_is c.set_ends.ensures.root c.set_ends.ensures.free c.set_ends.ensures.count c.set_ends.ensures.spare };
     }
 
-pub returns-in_default : goal.returns-in_default
-returns-in_default c = absurd (not_free _ c.args.x.number c.requires.loose c.requires.member _ refl (λ m is. c.in_default.not-Used m is))
+pub returns-in_default-clause-blocks : goal.returns-in_default-clause-blocks
+returns-in_default-clause-blocks c = absurd (not_free _ c.args.x.number c.requires.loose c.requires.member _ refl (λ m is. c.in_default.not-Used m is))
