@@ -1,4 +1,6 @@
 // The two states of a line, and why a line does not pass its test.
+ghost use Rattle.std.specs.Prelude.{◌≤◌, length};
+
 use chain::Index;
 use make::Kind;
 
@@ -14,6 +16,7 @@ pub struct TestedLine<'a> {
     pub(crate) line: &'a [u8],
     pub(crate) index: Index,
     pub(crate) kind: Kind,
+    ghost short: { length line.now ≤ 256 },
 }
 
 // Why a test gives no tested line.

@@ -10,7 +10,7 @@ ghost use Rattle.apart.specs.Verdicts.{passed_of};
 
 use crate::lines::TestedLine;
 use chain::Index;
-use engine::{LONGEST_LINE, Session, set};
+use engine::{Session, set};
 use ledger::mode::Mode;
 use ledger::refusal::Refusal;
 use line::parts::{Parts, parts_of};
@@ -56,9 +56,6 @@ pub(crate) fn spend<M: Make>(
 {
     if session.mode == Mode::Off {
         return Err(Refusal::ModeOff);
-    }
-    if tested.line.len() > LONGEST_LINE {
-        return Err(Refusal::Wrong);
     }
     let parts = parts_of(tested.line).ok_or(Refusal::Wrong)?;
     let told = put_into(memory, parts, tested.index, tested.kind)?;
