@@ -31,6 +31,7 @@ pub trait Make {
         ensures value { result ≡ spec.most };
 
     // How many system types there are; they are numbered from 0, and 0 is the conventional one.
+    // A number and no enum: each make has its own types, and a type is its place in the make's list.
     fn type_count() -> u8
         ensures value { result ≡ length spec.types };
 

@@ -94,7 +94,8 @@ impl<'a, M: Make> Memory<'a, M> {
         self.pool.len(Chain::Root)
     }
 
-    // The sequence number of record `x`: its place in its chain.
+    // The sequence number of record `x`: its place in its chain, and 0 for a free block, as the definitions count.
+    // An `Option` would be no plainer: who asks has a record in hand.
     pub fn place(&self, x: Index) -> u32
         ensures value { result ≡ sequence (store_of M.Make self.now.pool) x.number }
         ensures bound { result ≤ 45000 }

@@ -8,6 +8,7 @@ ghost use Rattle.chain.specs.View.{blocks_of, chain_of, free_of};
 use crate::pool::Pool;
 use chain::{Chain, Index};
 
+// A pool answers for its chains, and does not hand them out: `Deref` would show how it is made.
 impl<'a, T> Pool<'a, T> {
     // How many blocks there are.
     pub fn count(&self) -> u32

@@ -13,6 +13,9 @@ use std::alloc::AllocError;
 // A line of the sheet fits this many bytes.
 const SHEET_BUFFER: usize = 600;
 
+// Names and rows are written and added by two functions each: one that took the writing as a closure over the buffer
+// would need a longer contract than both.
+
 // Writes the names of a kind to the front of a buffer.
 fn names_to<M: Make>(kind: Kind, buffer: &mut [u8]) -> usize
     requires room { 600 ≤ length buffer.old }
@@ -66,7 +69,7 @@ fn row_at<M: Make>(memory: &Memory<'_, M>, kind: Kind, number: u32) -> Option<In
     }
 }
 
-// Adds the row of record `x`, and before it the names of its kind where they do not stand yet.
+// Adds the row of record `x`, and before it the names of its kind where they are not `named` yet.
 fn add_named_row<M: Make>(
     memory: &Memory<'_, M>,
     kind: Kind,
