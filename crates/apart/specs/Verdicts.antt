@@ -1,11 +1,11 @@
 -- What the code's answers to a test say. Assumes nothing.
-use Rattle.std.specs.Prelude.{ℕ, if◌then◌else◌, List, [], ◌∷◌, length, Some, None, Ok, Err, Option, Result, nat_lt}
+use Rattle.std.specs.Prelude.{◌≡◌, ℕ, if◌then◌else◌, List, [], ◌∷◌, length, Some, None, Ok, Err, Option, Result, nat_lt}
 use Rattle.text.specs.Buffer.{put}
 use Rattle.ledger.specs.Limits.{least_buffer}
 use Rattle.ledger.specs.Refusals.{refusal_of}
 use Rattle.ledger.specs.declared.refusal.Refusal.{Refusal}
 use Rattle.apart.specs.Testing.{Verdict, fails, passes, Passed}
-use Rattle.apart.specs.declared.judging.Found.{Found}
+use Rattle.apart.specs.declared.lines.Found.{Found}
 use Rattle.apart.specs.declared.lines.TestedLine.{TestedLine}
 use Rattle.apart.specs.declared.lines.TestError.{TestError}
 use Rattle.apart.specs.declared.lines.TestError.TheVariants.{ShortBuffer, Refused}
@@ -17,7 +17,12 @@ verdict_of (Err r) = fails (refusal_of r)
 
 -- what a tested line stands for
 abbrev pub passed_of : TestedLine → Passed
-passed_of t = record { line = t.line.now; index = t.index.number; kind = t.kind }
+passed_of t = record { line = t.line.now; index = t.found.index.number; kind = t.found.kind }
+
+-- a test of that line gave the verdict
+abbrev pub judged_of : List ℕ → Result TestedLine Refusal → Verdict → Type 0
+judged_of line (Ok t) v = (t.line.now ≡ line) × (passes t.found.index.number t.found.kind ≡ v)
+judged_of line (Err r) v = fails (refusal_of r) ≡ v
 
 -- what the answer to a test says: its number, its values, and the tested line
 pub record Told : Type 0 where

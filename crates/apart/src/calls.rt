@@ -32,13 +32,8 @@ pub fn test<'a, M: Make>(
     if out.len() < LEAST_BUFFER {
         return Err(TestError::ShortBuffer);
     }
-    let line = untested.line;
-    match judge(memory, session, line) {
-        Ok(found) => Ok(TestedLine {
-            line,
-            index: found.index,
-            kind: found.kind,
-        }),
+    match judge(memory, session, untested.line) {
+        Ok(tested) => Ok(tested),
         Err(refusal) => Err(TestError::Refused(say::<M>(&Err(refusal), out))),
     }
 }

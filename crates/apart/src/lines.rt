@@ -1,5 +1,6 @@
 // The two states of a line, and why a line does not pass its test.
-ghost use Rattle.std.specs.Prelude.{◌≤◌, length};
+ghost use Rattle.std.specs.Prelude.{◌≡◌, true};
+ghost use Rattle.line.specs.Opening.{opens};
 
 use chain::Index;
 use make::Kind;
@@ -10,13 +11,19 @@ pub struct UntestedLine<'a> {
     pub line: &'a [u8],
 }
 
-// A set line that a test has passed, with the block it names and the kind of record found there. Only a test makes one, and one write spends it.
+// The block that a set line names, and the kind of the record found there.
+#[derive(Clone, Copy)]
+pub(crate) struct Found {
+    pub(crate) index: Index,
+    pub(crate) kind: Kind,
+}
+
+// A set line that a test has passed. Only a test makes one, and one write spends it.
 #[derive(Drop)]
 pub struct TestedLine<'a> {
     pub(crate) line: &'a [u8],
-    pub(crate) index: Index,
-    pub(crate) kind: Kind,
-    ghost short: { length line.now ≤ 256 },
+    pub(crate) found: Found,
+    ghost open: { opens line.now ≡ true },
 }
 
 // Why a test gives no tested line.

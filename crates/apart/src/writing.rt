@@ -8,41 +8,38 @@ ghost use Rattle.engine.specs.View.{ledger_of};
 ghost use Rattle.apart.specs.Testing.{holds, put_into, write};
 ghost use Rattle.apart.specs.Verdicts.{passed_of};
 
-use crate::lines::TestedLine;
-use chain::Index;
+use crate::lines::{Found, TestedLine};
 use engine::{Session, set};
 use ledger::mode::Mode;
 use ledger::refusal::Refusal;
-use line::parts::{Parts, parts_of};
-use make::{Kind, Make};
+use line::parts::{Parts, read_line};
+use make::Make;
 use memory::Memory;
 use reply::told::{Reply, Told};
 
-// Whether block `x` holds a record of a kind.
-fn holds<M: Make>(memory: &Memory<'_, M>, x: Index, kind: Kind) -> bool
-    ensures value { result ≡ holds (store_of M.Make memory.now.pool) x.number kind }
+// Whether the block that a test found holds a record of the kind found there.
+fn holds<M: Make>(memory: &Memory<'_, M>, found: Found) -> bool
+    ensures value { result ≡ holds (store_of M.Make memory.now.pool) found.index.number found.kind }
 {
-    if !memory.is_living(x) {
-        return false;
+    match memory.get(found.index) {
+        Some(record) => found.kind == M::kind(&record),
+        None => false,
     }
-    let record = memory.read(x);
-    kind == M::kind(&record)
 }
 
-// Writes the fields of a line into block `x`, if it holds a record of that kind still and the make takes the line.
+// Writes the fields of a line into the block that its test found, if it holds a record of that kind still and the make takes the line.
 fn put_into<M: Make>(
     memory: &mut Memory<'_, M>,
     parts: Parts<'_>,
-    x: Index,
-    kind: Kind,
+    found: Found,
 ) -> Result<Told<M::Record>, Refusal>
-    ensures { Gives M.Make memory.old.pool memory.new.pool parts.entry.command result (λ L. put_into M.Make.spec L parts.entry.command x.number kind (fields_left parts.entry.arguments.fields)) }
+    ensures { Gives M.Make memory.old.pool memory.new.pool parts.entry.command result (λ L. put_into M.Make.spec L parts.entry.command found.index.number found.kind (fields_left parts.entry.arguments.fields)) }
 {
     let arguments = parts.arguments;
-    if !holds(memory, x, kind) || arguments.count != M::field_count(kind) + 1 {
+    if !holds(memory, found) || arguments.count != M::field_count(found.kind) + 1 {
         return Err(Refusal::Wrong);
     }
-    set(memory, x, arguments.rest())
+    set(memory, found.index, arguments.rest())
 }
 
 // Spends a tested line: writes its fields, if the mode is on.
@@ -57,8 +54,8 @@ pub(crate) fn spend<M: Make>(
     if session.mode == Mode::Off {
         return Err(Refusal::ModeOff);
     }
-    let parts = parts_of(tested.line).ok_or(Refusal::Wrong)?;
-    let told = put_into(memory, parts, tested.index, tested.kind)?;
+    let parts = read_line(tested.line)?;
+    let told = put_into(memory, parts, tested.found)?;
     Ok(Reply {
         command: parts.command,
         told,

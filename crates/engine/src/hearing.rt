@@ -13,13 +13,10 @@ use crate::session::Session;
 use ledger::command::Command;
 use ledger::mode::Mode;
 use ledger::refusal::Refusal;
-use line::parts::{Parts, is_printable, parts_of};
+use line::parts::{Parts, read_line};
 use make::Make;
 use memory::Memory;
 use reply::told::{Reply, Told};
-
-// A line has at most this many bytes.
-pub const LONGEST_LINE: usize = 256;
 
 // PRG, EPG: turns the mode, if no field was given.
 fn turn<R>(mode: &mut Mode, to: Mode, count: usize) -> Result<Told<R>, Refusal>
@@ -43,14 +40,14 @@ fn run<M: Make>(
     ensures shows { IfOk result Showable }
 {
     let command = parts.command;
-    let arguments = parts.arguments;
+    let count = parts.arguments.count;
     match (&mut session.mode, command) {
-        (mode, Command::Prg) => turn(mode, Mode::On, arguments.count),
-        (mode, Command::Epg) => turn(mode, Mode::Off, arguments.count),
+        (mode, Command::Prg) => turn(mode, Mode::On, count),
+        (mode, Command::Epg) => turn(mode, Mode::Off, count),
         (Mode::Off, _) => Err(Refusal::ModeOff),
         (Mode::On, _) => {
-            if command.takes().counts::<M>(arguments.count) {
-                carry_out(memory, command, arguments)
+            if command.takes().counts::<M>(count) {
+                carry_out(memory, parts)
             } else {
                 Err(Refusal::Wrong)
             }
@@ -67,13 +64,7 @@ pub(crate) fn hear<M: Make>(
     ensures hears { Hears M.Make memory.old.pool memory.new.pool (said_of M.Make result) (ledger_of M.Make session.new memory.new.pool) (step M.Make.spec (ledger_of M.Make session.old memory.old.pool) line.now) }
     ensures shows { IfOk result (λ x. Showable x.told) }
 {
-    if line.len() > LONGEST_LINE {
-        return Err(Refusal::TooLong);
-    }
-    if !is_printable(line) {
-        return Err(Refusal::Wrong);
-    }
-    let parts = parts_of(line).ok_or(Refusal::Wrong)?;
+    let parts = read_line(line)?;
     let told = run(memory, session, parts)?;
     Ok(Reply {
         command: parts.command,

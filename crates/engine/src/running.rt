@@ -15,7 +15,7 @@ use crate::target::find_target;
 use chain::{Branch, Chain};
 use ledger::command::Command;
 use ledger::refusal::Refusal;
-use line::parts::Arguments;
+use line::parts::Parts;
 use make::{Kind, Make};
 use memory::Memory;
 use reply::told::Told;
@@ -39,12 +39,12 @@ fn tell_talkgroups<M: Make>(
 // SIN, SIF, GIN, CIN, TIN, TFQ: an index alone reads the record, an index and every field set it.
 fn read_or_set<M: Make>(
     memory: &mut Memory<'_, M>,
-    command: Command,
-    arguments: Arguments<'_>,
+    parts: Parts<'_>,
 ) -> Result<Told<M::Record>, Refusal>
-    ensures { Gives M.Make memory.old.pool memory.new.pool command result (λ L. read_or_set M.Make.spec L command (fields_left arguments.entry.fields)) }
+    ensures { Gives M.Make memory.old.pool memory.new.pool parts.entry.command result (λ L. read_or_set M.Make.spec L parts.entry.command (fields_left parts.entry.arguments.fields)) }
 {
-    let x = find_target(memory, command, arguments.first())?;
+    let arguments = parts.arguments;
+    let x = find_target(memory, parts.command, arguments.first())?;
     if arguments.count == 1 {
         Ok(told_of(memory, x))
     } else {
@@ -55,13 +55,14 @@ fn read_or_set<M: Make>(
 // Carries out a command that was given the right count of fields.
 pub(crate) fn carry_out<M: Make>(
     memory: &mut Memory<'_, M>,
-    command: Command,
-    arguments: Arguments<'_>,
+    parts: Parts<'_>,
 ) -> Result<Told<M::Record>, Refusal>
-    ensures { Gives M.Make memory.old.pool memory.new.pool command result (λ L. done M.Make.spec L command (fields_left arguments.entry.fields)) }
+    ensures { Gives M.Make memory.old.pool memory.new.pool parts.entry.command result (λ L. done M.Make.spec L parts.entry.command (fields_left parts.entry.arguments.fields)) }
 {
-    let text = arguments.first();
+    let command = parts.command;
+    let text = parts.arguments.first();
     match command {
+        // The mode is turned before, and the store stays.
         Command::Prg | Command::Epg => Ok(Told::Done),
         Command::Clr => {
             memory.clear();
@@ -91,6 +92,6 @@ pub(crate) fn carry_out<M: Make>(
         }
         Command::Trn => tell_talkgroups(memory, command, text),
         Command::Sin | Command::Sif | Command::Gin | Command::Cin | Command::Tin | Command::Tfq =>
-            read_or_set(memory, command, arguments),
+            read_or_set(memory, parts),
     }
 }

@@ -22,11 +22,8 @@ pub fn find_target<M: Make>(
     ensures { MatchResult result (λ i. (target (store_of M.Make memory.now.pool) command text.now ≡ Some i.number) × (living (store_of M.Make memory.now.pool) i.number ≡ true)) (λ e. (target (store_of M.Make memory.now.pool) command text.now ≡ None) × (e ≡ Wrong)) }
 {
     let x = read_index(text, memory.count()).ok_or(Refusal::Wrong)?;
-    if !memory.is_living(x) {
-        return Err(Refusal::Wrong);
-    }
-    let record = memory.read(x);
-    if is_for(command, M::kind(&record), M::system_type(&record)) {
+    let record = memory.get(x).ok_or(Refusal::Wrong)?;
+    if is_for::<M>(command, &record) {
         Ok(x)
     } else {
         Err(Refusal::Wrong)

@@ -1,9 +1,11 @@
 // The parts of a line: its bytes, its command, and its fields with how many there are.
-ghost use Rattle.std.specs.Prelude.{◌≡◌, ◌≤◌, [], length, drop, Some, None, MatchOption, slice_index_or};
+ghost use Rattle.std.specs.Prelude.{◌≡◌, ◌≤◌, [], length, drop, Some, None, MatchOption, MatchResult, slice_index_or};
 ghost use Rattle.text.specs.Fields.{fields_left, text_of};
 ghost use Rattle.ledger.specs.Lines.{printable, command, fields};
+ghost use Rattle.line.specs.Opening.{refused_before};
 
 use ledger::command::Command;
+use ledger::refusal::Refusal;
 use text::field::{Fields, Part};
 
 // Whether every byte is from 32 to 126.
@@ -54,8 +56,24 @@ impl<'a> Arguments<'a> {
     }
 }
 
+// A line has at most this many bytes.
+pub const LONGEST_LINE: usize = 256;
+
+// The parts of a line. It is refused where it is too long, then where it has a byte outside 32 to 126, then where its command is unknown.
+pub fn read_line<'a>(line: &'a [u8]) -> Result<Parts<'a>, Refusal>
+    ensures { MatchResult result (λ p. (refused_before line.now ≡ None) × (command line.now ≡ Some p.command) × (fields_left p.arguments.fields ≡ fields line.now)) (λ e. refused_before line.now ≡ Some e) }
+{
+    if line.len() > LONGEST_LINE {
+        return Err(Refusal::TooLong);
+    }
+    if !is_printable(line) {
+        return Err(Refusal::Wrong);
+    }
+    parts_of(line).ok_or(Refusal::Wrong)
+}
+
 // The command of a line and its fields, or `None` where the command is unknown.
-pub fn parts_of<'a>(line: &'a [u8]) -> Option<Parts<'a>>
+fn parts_of<'a>(line: &'a [u8]) -> Option<Parts<'a>>
     ensures value { MatchOption result (command line.now ≡ None) (λ p. (command line.now ≡ Some p.command) × (fields_left p.arguments.fields ≡ fields line.now)) }
 {
     let mut fields = Fields::of(line);

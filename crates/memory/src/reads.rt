@@ -1,5 +1,5 @@
 // What is read of a memory.
-ghost use Rattle.std.specs.Prelude.{◌≡◌, ◌<◌, ◌≤◌, true, length};
+ghost use Rattle.std.specs.Prelude.{◌≡◌, ◌<◌, ◌≤◌, true, false, length, MatchOption};
 ghost use Rattle.chain.specs.Entry.{number};
 ghost use Rattle.chain.specs.Rows.{head_or, last_or};
 ghost use Rattle.chain.specs.Blocks.{Living, next_in, prev_in, chain as chain_in};
@@ -36,7 +36,14 @@ impl<'a, M: Make> Memory<'a, M> {
         self.pool.is_used(x)
     }
 
-    // The record in block `x`.
+    // The record in block `x`; none where it is free.
+    pub fn get(&self, x: Index) -> Option<M::Record>
+        ensures { MatchOption result (living (store_of M.Make self.now.pool) x.number ≡ false) (λ r. (living (store_of M.Make self.now.pool) x.number ≡ true) × (meaning M.Make r ≡ holding (store_of M.Make self.now.pool) x.number)) }
+    {
+        if self.is_living(x) { Some(self.read(x)) } else { None }
+    }
+
+    // The record in block `x`, which is living.
     pub fn read(&self, x: Index) -> M::Record
         requires living { living (store_of M.Make self.now.pool) x.number ≡ true }
         ensures value { meaning M.Make result ≡ holding (store_of M.Make self.now.pool) x.number }

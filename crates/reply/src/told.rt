@@ -34,13 +34,13 @@ pub struct Reply<R> {
 }
 
 // What stands before the fields: a system's type, a group's letter.
-fn put_lead<M: Make>(w: &mut Writer<'_>, kind: Kind, system_type: u8)
+fn put_lead<M: Make>(w: &mut Writer<'_>, held: &M::Record)
     requires room { w.old.at + 5 ≤ length w.old.out.now }
     ensures bound { w.new.at ≤ w.old.at + 5 }
-    ensures texts { Lists w.old w.new (lead M.Make.spec kind system_type) }
+    ensures texts { Lists w.old w.new (lead M.Make.spec (M.Make.kindof held.now) (M.Make.systemtype held.now)) }
 {
-    match kind {
-        Kind::System => put_piece(w, M::type_name(system_type)),
+    match M::kind(held) {
+        Kind::System => put_piece(w, M::type_name(M::system_type(held))),
         Kind::ChannelGroup => put_piece(w, b"C"),
         Kind::TalkgroupGroup => put_piece(w, b"T"),
         Kind::Site | Kind::Channel | Kind::Talkgroup | Kind::TrunkFrequency => {}
@@ -57,7 +57,7 @@ fn put_record<M: Make>(w: &mut Writer<'_>, record: &M::Record, links: Links)
     let kind = M::kind(record);
     let first = M::first_part(kind);
     let count = M::field_count(kind);
-    put_lead::<M>(w, kind, M::system_type(record));
+    put_lead::<M>(w, record);
     put_fields::<M>(w, record, 0, first);
     put_links(w, links);
     put_fields::<M>(w, record, first, count);

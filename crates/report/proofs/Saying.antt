@@ -36,16 +36,11 @@ line_said S L L' o o' t rest rest' cut say next = (
   ap (λ (K : Ledger). behind S K (lines_from [] rest')) next ∙ ap (behind S L) (sym cut),
 )
 
--- a line that was copied to a buffer
-pub copied : (o o' t : List ℕ) (len n : ℕ) → length o ≡ 257 → len ≡ min (length t) 257 → n ≡ 0 + length (take (len - 0) t) → o' ≡ put o 0 (take (len - 0) t) → (n ≤ length o) × (take n o' ≡ take 257 t)
-copied o o' t len n long m e b =
-    let short : len - 0 ≤ length t = omega (arith, m) in
-    let k = length-take-le (len - 0) t short in
-    let same : take (len - 0) t ≡ take 257 t = by_length t len m in
-    (omega (arith, e, k, m, long), ap (take n) b ∙ take_at (take (len - 0) t) (drop (0 + length (take (len - 0) t)) o) n (omega (arith, e)) ∙ same)
-  where
-    by_length : (t : List ℕ) (len : ℕ) → len ≡ min (length t) 257 → take (len - 0) t ≡ take 257 t
-    by_length t len m = ⊎_elim (λ h. let e : len - 0 ≡ 257 = omega (arith, m, h) in ap (λ j. take j t) e) (λ h. take_all (len - 0) t (omega (arith, m, h)) ∙ sym (take_all 257 t (omega (arith, h)))) (cases_lt 257 (length t))
+-- a line that was copied to the front of a buffer
+pub copied : (t b x : List ℕ) (len : ℕ) → len ≡ min (length t) 257 → x ≡ take len t → take len (x ++ drop len b) ≡ take 257 t
+copied t b x len m e =
+    let long : length x ≡ len = ap length e ∙ length-take-le len t (omega (arith, m)) in
+    take_at x (drop len b) len long ∙ e ∙ ⊎_elim (λ h. let whole : len ≡ 257 = omega (arith, m, h) in ap (λ j. take j t) whole) (λ h. take_all len t (omega (arith, m, h)) ∙ sym (take_all 257 t (omega (arith, h)))) (cases_lt 257 (length t))
 
 -- a whole line of the sheet at the front of a buffer
 pub front_said : (o o' t : List ℕ) (n : ℕ) → Wrote o o' n t → length o' ≡ length o → Said o o' t n

@@ -4,17 +4,13 @@ ghost use Rattle.ledger.specs.Lines.{step};
 ghost use Rattle.engine.specs.View.{ledger_of};
 ghost use Rattle.report.specs.Report.{lines_from, lines_of, replies, behind};
 
-use engine::{Session, command};
+use engine::{LEAST_BUFFER, Session, command};
 use make::Make;
 use memory::Memory;
 use std::alloc::AllocError;
-use text::buffer::put_bytes;
 
 // A line is cut to this many bytes.
 const LINE_BUFFER: usize = 257;
-
-// A reply buffer has this many bytes.
-const REPLY_BUFFER: usize = 600;
 
 // Where the first line of a text ends, if a CR ends it.
 fn line_end(text: &[u8]) -> Option<usize>
@@ -48,9 +44,9 @@ fn answer_line<M: Make>(
     ensures replies { OnOk result (out.new.items ≡ out.old.items ++ (step M.Make.spec (ledger_of M.Make session.old memory.old.pool) line.now).said) }
     ensures ledger { (ledger_of M.Make session.new memory.new.pool) ≡ (step M.Make.spec (ledger_of M.Make session.old memory.old.pool) line.now).next }
 {
-    let mut buffer = [0u8; REPLY_BUFFER];
+    let mut buffer = [0u8; LEAST_BUFFER];
     let n = hear_line(memory, session, line, &mut buffer);
-    out.extend_from_slice(&buffer[0..n])
+    out.extend_from_slice(&buffer[..n])
 }
 
 // Copies as much of a line as the buffer holds, and answers how much that is.
@@ -60,7 +56,8 @@ fn copy_line(buffer: &mut [u8], line: &[u8]) -> usize
     ensures copied { take result buffer.new ≡ take 257 line.now }
 {
     let len = line.len().min(LINE_BUFFER);
-    put_bytes(buffer, 0, &line[0..len])
+    buffer[..len].copy_from_slice(&line[..len]);
+    len
 }
 
 // Copies a line to a buffer of zeros, and gives it to the engine; what it has beyond that is dropped.
@@ -75,10 +72,10 @@ fn answer_cut<M: Make>(
 {
     let mut buffer = [0u8; LINE_BUFFER];
     let len = copy_line(&mut buffer, line);
-    answer_line(memory, session, &buffer[0..len], out)
+    answer_line(memory, session, &buffer[..len], out)
 }
 
-// Gives each line of a text to the engine.
+// Gives each line of a text to the engine. What stands behind the last CR is no line, as a `split` at the CRs would have it.
 pub(crate) fn answer_lines<M: Make>(
     memory: &mut Memory<'_, M>,
     session: &mut Session,
@@ -90,7 +87,7 @@ pub(crate) fn answer_lines<M: Make>(
 {
     let mut rest = text;
     while let Some(end) = line_end(rest) {
-        answer_cut(memory, session, &rest[0..end], out)?;
+        answer_cut(memory, session, &rest[..end], out)?;
         rest = &rest[end + 1..];
     }
     Ok(())

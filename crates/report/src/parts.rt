@@ -5,55 +5,29 @@ ghost use Rattle.memory.specs.View.{store_of};
 ghost use Rattle.sheet.specs.Sheet.{names, row, is_row, part, parts_of, sheet};
 
 use chain::Index;
+use engine::LEAST_BUFFER;
 use make::{Kind, Make};
 use memory::Memory;
 use sheet::{put_names, put_row};
 use std::alloc::AllocError;
 
-// A line of the sheet fits this many bytes.
-const SHEET_BUFFER: usize = 600;
-
-// Names and rows are written and added by two functions each: one that took the writing as a closure over the buffer
-// would need a longer contract than both.
-
-// Writes the names of a kind to the front of a buffer.
-fn names_to<M: Make>(kind: Kind, buffer: &mut [u8]) -> usize
-    requires room { 600 ≤ length buffer.old }
-    ensures within { result ≤ length buffer.old }
-    ensures said { take result buffer.new ≡ names M.Make.spec kind }
-{
-    put_names::<M>(kind, buffer)
-}
-
 // Adds the names of a kind.
 fn add_names<M: Make>(kind: Kind, out: &mut Vec<u8>) -> Result<(), AllocError>
     ensures { OnOk result (out.new.items ≡ out.old.items ++ names M.Make.spec kind) }
 {
-    let mut buffer = [0u8; SHEET_BUFFER];
-    let n = names_to::<M>(kind, &mut buffer);
-    out.extend_from_slice(&buffer[0..n])
+    let mut buffer = [0u8; LEAST_BUFFER];
+    let n = put_names::<M>(kind, &mut buffer);
+    out.extend_from_slice(&buffer[..n])
 }
 
-// Writes the row of record `x` to the front of a buffer.
-fn row_to<M: Make>(memory: &Memory<'_, M>, x: Index, buffer: &mut [u8]) -> usize
-    requires room { 600 ≤ length buffer.old }
-    requires living { living (store_of M.Make memory.now.pool) x.number ≡ true }
-    requires short { x.number < 100000 }
-    ensures within { result ≤ length buffer.old }
-    ensures said { take result buffer.new ≡ row M.Make.spec (store_of M.Make memory.now.pool) x.number }
-{
-    put_row(memory, x, buffer)
-}
-
-// Adds the row of record `x`.
+// Adds the row of record `x`. This and `add_names` are two: one that took the writing as a closure over the buffer would need a longer contract than both.
 fn add_row<M: Make>(memory: &Memory<'_, M>, x: Index, out: &mut Vec<u8>) -> Result<(), AllocError>
-    requires living { living (store_of M.Make memory.now.pool) x.number ≡ true }
-    requires short { x.number < 100000 }
+    requires { living (store_of M.Make memory.now.pool) x.number ≡ true }
     ensures { OnOk result (out.new.items ≡ out.old.items ++ row M.Make.spec (store_of M.Make memory.now.pool) x.number) }
 {
-    let mut buffer = [0u8; SHEET_BUFFER];
-    let n = row_to(memory, x, &mut buffer);
-    out.extend_from_slice(&buffer[0..n])
+    let mut buffer = [0u8; LEAST_BUFFER];
+    let n = put_row(memory, x, &mut buffer);
+    out.extend_from_slice(&buffer[..n])
 }
 
 // The block of that number, if it holds a record of a kind.
@@ -62,11 +36,8 @@ fn row_at<M: Make>(memory: &Memory<'_, M>, kind: Kind, number: u32) -> Option<In
     ensures { MatchOption result (is_row (store_of M.Make memory.now.pool) kind number ≡ false) (λ x. (x.number ≡ number) × (is_row (store_of M.Make memory.now.pool) kind number ≡ true)) }
 {
     let x = Index::new(number)?;
-    if memory.is_living(x) && kind == M::kind(&memory.read(x)) {
-        Some(x)
-    } else {
-        None
-    }
+    let record = memory.get(x)?;
+    if kind == M::kind(&record) { Some(x) } else { None }
 }
 
 // Adds the row of record `x`, and before it the names of its kind where they are not `named` yet.
@@ -77,8 +48,7 @@ fn add_named_row<M: Make>(
     named: bool,
     out: &mut Vec<u8>,
 ) -> Result<(), AllocError>
-    requires living { living (store_of M.Make memory.now.pool) x.number ≡ true }
-    requires short { x.number < 100000 }
+    requires { living (store_of M.Make memory.now.pool) x.number ≡ true }
     ensures { OnOk result (out.new.items ≡ (out.old.items ++ (if named then [] else names M.Make.spec kind)) ++ row M.Make.spec (store_of M.Make memory.now.pool) x.number) }
 {
     if !named {

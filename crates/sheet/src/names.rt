@@ -16,14 +16,8 @@ fn put_type_name(w: &mut Writer<'_>, kind: Kind)
     ensures bound { w.new.at ≤ w.old.at + 5 }
     ensures texts { Lists w.old w.new (type_column kind) }
 {
-    match kind {
-        Kind::System => put_piece(w, b"TYPE"),
-        Kind::Site
-        | Kind::ChannelGroup
-        | Kind::TalkgroupGroup
-        | Kind::Channel
-        | Kind::Talkgroup
-        | Kind::TrunkFrequency => {}
+    if kind == Kind::System {
+        put_piece(w, b"TYPE");
     }
 }
 

@@ -28,19 +28,13 @@ fn put_places<M: Make>(w: &mut Writer<'_>, memory: &Memory<'_, M>, x: Index)
 }
 
 // A system's type.
-fn put_type<M: Make>(w: &mut Writer<'_>, kind: Kind, system_type: u8)
+fn put_type<M: Make>(w: &mut Writer<'_>, held: &M::Record)
     requires room { w.old.at + 5 ≤ length w.old.out.now }
     ensures bound { w.new.at ≤ w.old.at + 5 }
-    ensures texts { Lists w.old w.new (type_cell M.Make.spec kind system_type) }
+    ensures texts { Lists w.old w.new (type_cell M.Make.spec (M.Make.kindof held.now) (M.Make.systemtype held.now)) }
 {
-    match kind {
-        Kind::System => put_piece(w, M::type_name(system_type)),
-        Kind::Site
-        | Kind::ChannelGroup
-        | Kind::TalkgroupGroup
-        | Kind::Channel
-        | Kind::Talkgroup
-        | Kind::TrunkFrequency => {}
+    if M::kind(held) == Kind::System {
+        put_piece(w, M::type_name(M::system_type(held)));
     }
 }
 
@@ -48,15 +42,13 @@ fn put_type<M: Make>(w: &mut Writer<'_>, kind: Kind, system_type: u8)
 fn put_cells<M: Make>(w: &mut Writer<'_>, memory: &Memory<'_, M>, x: Index)
     requires room { w.old.at + 600 ≤ length w.old.out.now }
     requires living { living (store_of M.Make memory.now.pool) x.number ≡ true }
-    requires short { x.number < 100000 }
     ensures { Puts w.old w.new (row M.Make.spec (store_of M.Make memory.now.pool) x.number) }
 {
     let record = memory.read(x);
-    let kind = M::kind(&record);
     w.put_number(x.number());
     put_places(w, memory, x);
-    put_type::<M>(w, kind, M::system_type(&record));
-    put_fields::<M>(w, &record, 0, M::field_count(kind));
+    put_type::<M>(w, &record);
+    put_fields::<M>(w, &record, 0, M::field_count(M::kind(&record)));
     w.put_byte(b'\r');
 }
 
@@ -64,7 +56,6 @@ fn put_cells<M: Make>(w: &mut Writer<'_>, memory: &Memory<'_, M>, x: Index)
 pub fn put_row<M: Make>(memory: &Memory<'_, M>, x: Index, out: &mut [u8]) -> usize
     requires room { 600 ≤ length out.old }
     requires living { living (store_of M.Make memory.now.pool) x.number ≡ true }
-    requires short { x.number < 100000 }
     ensures { Wrote out.old out.new result (row M.Make.spec (store_of M.Make memory.now.pool) x.number) }
 {
     let mut w = Writer { out, at: 0 };

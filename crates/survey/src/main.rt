@@ -12,7 +12,7 @@ use std::io::{Read, Write};
 const BLOCKS: usize = 200;
 
 fn main(rt: HostRuntime) -> io::Result<()> {
-    let mut links = [Link::Free(0); BLOCKS];
+    let mut links = [Link::BLANK; BLOCKS];
     let mut records = [Bcd996t::fresh(Kind::System, 0); BLOCKS];
     let mut text = Vec::new(rt.alloc());
     rt.stdin().read_to_end(&mut text)?;

@@ -12,8 +12,8 @@ returns g c =
     let S = g.M.Make.spec in
     let L = store_of g.M.Make c.args.memory.now.pool in
     let k = c.args.parts.command in
-    let x = c.args.x.number in
+    let x = c.args.found.index.number in
     let rest = fields_left c.rest.result in
     let fs = fields_left c.args.parts.arguments.fields in
-    let same : sets S L k x (holding L x) rest ≡ put_into S L k x c.args.kind fs = search rules in
-    gives_as _ _ _ k _ (λ L. sets S L k x (holding L x) rest) (λ L. put_into S L k x c.args.kind fs) (c.set.ensures k) same
+    let same : sets S L k x (holding L x) rest ≡ put_into S L k x c.args.found.kind fs = search rules in
+    gives_as _ _ _ k _ (λ L. sets S L k x (holding L x) rest) (λ L. put_into S L k x c.args.found.kind fs) (c.set.ensures k) same

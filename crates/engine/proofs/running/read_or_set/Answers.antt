@@ -5,4 +5,4 @@ use Rattle.engine.proofs.running.read_or_set.Goals as goal
 
 pub returns-else-arguments-eq1 : goal.returns-else-arguments-eq1
 returns-else-arguments-eq1 g c =
-    gives_set _ _ _ c.args.command _ c.in_ok-x.x.number c.first.result.now (fields_left c.args.arguments.fields) (fields_left c.rest.result) (c.set.ensures c.args.command) c.first.ensures.value c.rest.ensures.value c.in_ok-x.ensures.0 (λ e. c.if-arguments-eq1.false (c.args.arguments.counted ∙ e))
+    gives_set _ _ _ c.args.parts.command _ c.in_ok-x.x.number c.first.result.now (fields_left c.args.parts.arguments.fields) (fields_left c.rest.result) (c.set.ensures c.args.parts.command) c.first.ensures.value c.rest.ensures.value c.in_ok-x.ensures.0 (λ e. c.if-arguments-eq1.false (c.args.parts.arguments.counted ∙ e))

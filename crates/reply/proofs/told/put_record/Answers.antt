@@ -17,7 +17,7 @@ returns-clause-texts g c =
     let first = c.first_part-first.result in
     let count = c.field_count-count.result in
     let p = pieces_of c.args.links in
-    let l = lead S kk c.system_type.result in
+    let l = lead S k (g.M.Make.systemtype x) in
     let few : count ≤ 20 = omega (arith, K.few_fields kk, c.field_count-count.ensures.value) in
     let order : first ≤ count = omega (arith, K.fronted kk, c.field_count-count.ensures.value, c.first_part-first.ensures.value) in
     let all : length ts ≤ count = omega (arith, g.met.M.Make.counted x, ap (λ z. length (fields_of S z)) c.kind-kind.ensures.value, c.field_count-count.ensures.value) in
@@ -25,5 +25,4 @@ returns-clause-texts g c =
     let linked = both _ _ _ (l ++ slice_range ts 0 first) p led c.put_links.ensures.texts (omega (arith, few, order, c.put_lead.ensures.bound, c.put_fields.ensures.bound, c.requires.room)) in
     let filled = both _ _ _ ((l ++ slice_range ts 0 first) ++ p) (slice_range ts first count) linked c.put_fields-2.ensures.texts (omega (arith, few, order, c.put_lead.ensures.bound, c.put_fields.ensures.bound, c.put_links.ensures.bound, c.requires.room)) in
     let front : first ≡ first_of S k = c.first_part-first.ensures.value ∙ ap (first_of S) c.kind-kind.ensures.value in
-    let start : l ≡ lead S k (g.M.Make.systemtype x) = ap (λ z. lead S z c.system_type.result) c.kind-kind.ensures.value ∙ ap (lead S k) c.system_type.ensures.value in
-    subst (Lists _ _) (parts_joined l p ts first count all order ∙ ap (λ z. z ++ (take first ts ++ (p ++ drop first ts))) start ∙ ap (λ z. lead S k (g.M.Make.systemtype x) ++ (take z ts ++ (p ++ drop z ts))) front) filled
+    subst (Lists _ _) (parts_joined l p ts first count all order ∙ ap (λ z. lead S k (g.M.Make.systemtype x) ++ (take z ts ++ (p ++ drop z ts))) front) filled

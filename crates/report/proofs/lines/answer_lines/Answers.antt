@@ -16,7 +16,6 @@ loop-end-preserved g c =
     let t = c.loop-end.rest.now in
     let end = c.in-Some.end in
     let rest = take_rest t (end + 1) in
-    let zero : end - 0 ≡ end = omega arith in
-    let cut : lines_from [] t ≡ take 257 (take (end - 0) t) ∷ lines_from [] (take (length t - (end + 1)) (drop (end + 1) t)) = c.in-Some.ensures.1 ∙ ap (λ k. take 257 (take k t) ∷ lines_from [] (drop (end + 1) t)) (sym zero) ∙ ap (λ z. take 257 (take (end - 0) t) ∷ lines_from [] z) (sym rest) in
-    let s = line_said S L L' (vec_items c.loop-end.out) (vec_items c.answer_cut.new.out) (take (end - 0) t) t (take (length t - (end + 1)) (drop (end + 1) t)) cut c.in_ok-answer_cut.ensures.replies c.in_ok-answer_cut.ensures.ledger in
+    let cut : lines_from [] t ≡ take 257 (take end t) ∷ lines_from [] (take (length t - (end + 1)) (drop (end + 1) t)) = c.in-Some.ensures.1 ∙ ap (λ z. take 257 (take end t) ∷ lines_from [] z) (sym rest) in
+    let s = line_said S L L' (vec_items c.loop-end.out) (vec_items c.answer_cut.new.out) (take end t) t (take (length t - (end + 1)) (drop (end + 1) t)) cut c.in_ok-answer_cut.ensures.replies c.in_ok-answer_cut.ensures.ledger in
     (s.0 ∙ c.loop-end.invariant.0, s.1 ∙ c.loop-end.invariant.1, omega (arith, ap length rest, length-drop (end + 1) t, c.loop-end.invariant.2))
