@@ -59,7 +59,8 @@ impl<'a> Writer<'a> {
         ensures bound { self.new.at ≤ self.old.at + 6 }
     {
         let magnitude = n.unsigned_abs();
-        if n < 0 {
+        let below = n < 0;
+        if below {
             self.put_byte(b'-');
         }
         self.put_number(magnitude);
