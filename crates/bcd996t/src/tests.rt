@@ -2,6 +2,7 @@
 use crate::keeping::{Bcd996t, Record};
 use make::{Kind, Make};
 use std::mem::size_of;
+use text::writer::Writer;
 
 // A kind, a field, a text for it, and what the field of a new record shows after it; nothing where the text is refused.
 type Case = (Kind, usize, &'static [u8], &'static [u8]);
@@ -180,23 +181,26 @@ const MEMBERS: [Case; 91] = [
     (Kind::TrunkFrequency, 3, b"0", b""),
 ];
 
-// Writes the text that a field shows, and answers the place behind it.
-fn shown<M: Make>(record: &M::Record, field: usize, out: &mut [u8]) -> usize {
-    let mut w = Writer { out, at: 0 };
-    M::show(record, field, &mut w);
-    w.at
-}
-
 // A refused text leaves what the field showed before. Each make's crate has this helper, since a crate's tests cannot use those of another.
 fn holds<M: Make>(case: &Case) -> bool {
     let (kind, field, text, shown) = *case;
     let mut record = M::fresh(kind, 0);
     let mut before = [0u8; 24];
-    let start = shown::<M>(&record, field, &mut before);
+    let mut w = Writer {
+        out: &mut before,
+        at: 0,
+    };
+    M::show(&record, field, &mut w);
+    let start = w.at;
     let legal = M::accepts(kind, field, text);
     M::write(&mut record, field, text);
     let mut after = [0u8; 24];
-    let end = shown::<M>(&record, field, &mut after);
+    let mut w = Writer {
+        out: &mut after,
+        at: 0,
+    };
+    M::show(&record, field, &mut w);
+    let end = w.at;
     if legal {
         &after[0..end] == shown
     } else {
