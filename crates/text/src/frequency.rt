@@ -1,10 +1,11 @@
 // Frequencies in steps of 100 Hz: 0, or from 25 MHz to 1300 MHz.
 ghost use Rattle.std.specs.Prelude.{◌≡◌, ◌+◌, ◌≤◌, true, false, T, length, if◌then◌else◌, MatchOption, MatchResult};
-ghost use Rattle.text.specs.Buffer.{put};
 ghost use Rattle.text.specs.Frequency.{in_band, legal_frequency};
 ghost use Rattle.text.specs.Number.{value, fixed};
+ghost use Rattle.text.specs.Writing.{Puts};
 
-use crate::number::{put_digits, read_digits};
+use crate::number::read_digits;
+use crate::writer::Writer;
 
 // A frequency is read from at most, and shown with, this many digits.
 const FREQUENCY_DIGITS: usize = 8;
@@ -61,12 +62,12 @@ impl Frequency {
         self.steps
     }
 
-    // Writes the frequency with eight digits, and answers the place behind it.
-    pub fn put(self, out: &mut [u8], at: usize) -> usize
-        requires room { at + 8 ≤ length out.old }
-        ensures end { result ≡ at + 8 }
-        ensures buffer { out.new ≡ put out.old at (fixed 8 self.steps) }
+    // Writes the frequency with eight digits.
+    pub fn put(self, w: &mut Writer<'_>)
+        requires room { w.old.at + 8 ≤ length w.old.out.now }
+        ensures puts { Puts w.old w.new (fixed 8 self.steps) }
+        ensures end { w.new.at ≡ w.old.at + 8 }
     {
-        put_digits(out, at, self.steps, FREQUENCY_DIGITS)
+        w.put_digits(self.steps, FREQUENCY_DIGITS);
     }
 }

@@ -1,7 +1,6 @@
 // The text layer: numbers, signed numbers, frequencies and fields of a line, and writing them into a reply buffer.
 #![tactic(auto)]
 
-pub mod buffer;
 pub mod field;
 pub mod frequency;
 pub mod laws;

@@ -1,6 +1,5 @@
 // Numbers without a sign: read from one to five digits, shown without leading zeros.
-ghost use Rattle.std.specs.Prelude.{◌≡◌, ◌+◌, ◌<◌, ◌≤◌, length, decimal};
-ghost use Rattle.text.specs.Buffer.{put};
+ghost use Rattle.std.specs.Prelude.{◌≡◌, ◌<◌, ◌≤◌, length, decimal};
 ghost use Rattle.text.specs.Number.{number_in, fixed};
 
 // A number that is read has at most this many digits.
@@ -43,31 +42,9 @@ pub(crate) fn fill_digits(n: u32, out: &mut [u8])
 }
 
 // How many digits a number of at most five has.
-fn width_of(n: u32) -> usize
+pub(crate) fn width_of(n: u32) -> usize
     requires { n < 100000 }
     ensures { (fixed result n ≡ decimal n) × (result ≡ length (decimal n)) × (result ≤ 5) }
 {
     n.max(1).ilog10() as usize + 1
-}
-
-// Writes the last `width` digits of `n`.
-pub(crate) fn put_digits(out: &mut [u8], at: usize, n: u32, width: usize) -> usize
-    requires room { at + width ≤ length out.old }
-    ensures end { result ≡ at + width }
-    ensures buffer { out.new ≡ put out.old at (fixed width n) }
-{
-    fill_digits(n, &mut out[at..at + width]);
-    at + width
-}
-
-// Writes `n` with no leading zeros, and answers the place behind it.
-pub fn put_number(out: &mut [u8], at: usize, n: u32) -> usize
-    requires small { n < 100000 }
-    requires room { at + 5 ≤ length out.old }
-    ensures end { result ≡ at + length (decimal n) }
-    ensures bound { result ≤ at + 5 }
-    ensures buffer { out.new ≡ put out.old at (decimal n) }
-{
-    let width = width_of(n);
-    put_digits(out, at, n, width)
 }

@@ -1,9 +1,9 @@
 // Examples of the text layer.
-use crate::buffer::put_bytes;
 use crate::field::Fields;
 use crate::frequency::Frequency;
-use crate::number::{put_number, read_number};
-use crate::signed::{put_signed, read_signed};
+use crate::number::read_number;
+use crate::signed::read_signed;
+use crate::writer::Writer;
 use std::test::Fail;
 
 #[test]
@@ -15,7 +15,12 @@ fn numbers(rt: HostRuntime) {
     assert_eq!(rt; read_number(b""), None);
     assert_eq!(rt; read_number(b"99999"), Some(99999));
     let mut out = [7u8; 8];
-    assert_eq!(rt; put_number(&mut out, 1, 907), 4);
+    let mut w = Writer {
+        out: &mut out,
+        at: 1,
+    };
+    w.put_number(907);
+    assert_eq!(rt; w.at, 4);
     assert!(rt; out == [7, b'9', b'0', b'7', 7, 7, 7, 7]);
 }
 
@@ -28,8 +33,14 @@ fn signs(rt: HostRuntime) {
     assert_eq!(rt; read_signed(b"5-"), None);
     assert_eq!(rt; read_signed(b"+"), None);
     let mut out = [7u8; 9];
-    assert_eq!(rt; put_signed(&mut out, 0, -10), 3);
-    assert_eq!(rt; put_signed(&mut out, 3, 0), 4);
+    let mut w = Writer {
+        out: &mut out,
+        at: 0,
+    };
+    w.put_signed(-10);
+    assert_eq!(rt; w.at, 3);
+    w.put_signed(0);
+    assert_eq!(rt; w.at, 4);
     assert!(rt; out == *b"-100\x07\x07\x07\x07\x07");
 }
 
@@ -44,7 +55,12 @@ fn frequencies(rt: HostRuntime) -> Result<(), Fail> {
     let mut out = [7u8; 10];
     let f = Frequency::from_text(b"1546500").ok_or("refused")?;
     assert_eq!(rt; f.steps(), 1546500);
-    assert_eq!(rt; f.put(&mut out, 1), 9);
+    let mut w = Writer {
+        out: &mut out,
+        at: 1,
+    };
+    f.put(&mut w);
+    assert_eq!(rt; w.at, 9);
     assert!(rt; out == *b"\x0701546500\x07");
     Ok(())
 }
@@ -63,7 +79,12 @@ fn fields(rt: HostRuntime) -> Result<(), Fail> {
     );
     assert!(rt; fields.next().is_none());
     let mut out = [7u8; 4];
-    assert_eq!(rt; put_bytes(&mut out, 1, b"OK"), 3);
+    let mut w = Writer {
+        out: &mut out,
+        at: 1,
+    };
+    w.put_bytes(b"OK");
+    assert_eq!(rt; w.at, 3);
     assert!(rt; out == [7, b'O', b'K', 7]);
     Ok(())
 }
