@@ -4,9 +4,7 @@ use sorts::{
     FieldRow, QuickKey, Sort, StartingName, Tag, put_flag, put_quick_key, put_tag, read_delay,
     read_flag, read_quick_key, read_small, read_tag,
 };
-use text::buffer::put_bytes;
-use text::number::put_number;
-use text::signed::put_signed;
+use text::writer::Writer;
 
 const FIELD_COUNT: usize = 5;
 
@@ -74,14 +72,14 @@ impl Settings for SystemSettings {
         }
     }
 
-    fn show(&self, field: usize, out: &mut [u8], at: usize) -> usize {
+    fn show(&self, field: usize, w: &mut Writer<'_>) {
         match field {
-            0 => put_quick_key(out, at, self.key),
-            1 => put_number(out, at, self.hold as u32),
-            2 => put_flag(out, at, self.lockout),
-            3 => put_signed(out, at, self.delay as i32),
-            4 => put_tag(out, at, self.tag),
-            _ => put_bytes(out, at, b""),
+            0 => put_quick_key(w, self.key),
+            1 => w.put_number(self.hold as u32),
+            2 => put_flag(w, self.lockout),
+            3 => w.put_signed(self.delay as i32),
+            4 => put_tag(w, self.tag),
+            _ => {}
         }
     }
 }

@@ -4,9 +4,7 @@ use sorts::{
     FieldRow, Sort, StartingName, Tag, put_flag, put_tag, read_between, read_flag, read_offset,
     read_small, read_tag,
 };
-use text::buffer::put_bytes;
-use text::number::put_number;
-use text::signed::put_signed;
+use text::writer::Writer;
 
 const FIELD_COUNT: usize = 11;
 
@@ -103,17 +101,17 @@ impl Settings for TalkgroupSettings {
         }
     }
 
-    fn show(&self, field: usize, out: &mut [u8], at: usize) -> usize {
+    fn show(&self, field: usize, w: &mut Writer<'_>) {
         match field {
-            0 => put_number(out, at, self.id as u32),
-            1 => put_flag(out, at, self.lockout),
-            2 => put_flag(out, at, self.priority),
-            3 => put_number(out, at, self.alert as u32),
-            4 => put_number(out, at, self.alert_level as u32),
-            7 => put_tag(out, at, self.tag),
-            9 => put_number(out, at, self.pattern as u32),
-            10 => put_signed(out, at, self.offset as i32),
-            _ => put_bytes(out, at, b""),
+            0 => w.put_number(self.id as u32),
+            1 => put_flag(w, self.lockout),
+            2 => put_flag(w, self.priority),
+            3 => w.put_number(self.alert as u32),
+            4 => w.put_number(self.alert_level as u32),
+            7 => put_tag(w, self.tag),
+            9 => w.put_number(self.pattern as u32),
+            10 => w.put_signed(self.offset as i32),
+            _ => {}
         }
     }
 }

@@ -2,6 +2,7 @@
 use crate::keeping::{Bc346xt, Record};
 use make::{Kind, Make};
 use std::mem::size_of;
+use text::writer::Writer;
 
 // A kind, a field, a text for it, and what the field of a new record shows after it; nothing where the text is refused.
 type Case = (Kind, usize, &'static [u8], &'static [u8]);
@@ -255,11 +256,21 @@ fn holds<M: Make>(case: &Case) -> bool {
     let (kind, field, text, shown) = *case;
     let mut record = M::fresh(kind, 0);
     let mut before = [0u8; 24];
-    let start = M::show(&record, field, &mut before, 0);
+    let mut w = Writer {
+        out: &mut before,
+        at: 0,
+    };
+    M::show(&record, field, &mut w);
+    let start = w.at;
     let legal = M::accepts(kind, field, text);
     M::write(&mut record, field, text);
     let mut after = [0u8; 24];
-    let end = M::show(&record, field, &mut after, 0);
+    let mut w = Writer {
+        out: &mut after,
+        at: 0,
+    };
+    M::show(&record, field, &mut w);
+    let end = w.at;
     if legal {
         &after[0..end] == shown
     } else {

@@ -4,9 +4,8 @@ use sorts::{
     FieldRow, Modulation, Sort, StartingName, put_flag, put_modulation, read_flag, read_frequency,
     read_modulation, read_small,
 };
-use text::buffer::put_bytes;
 use text::frequency::Frequency;
-use text::number::put_number;
+use text::writer::Writer;
 
 const FIELD_COUNT: usize = 11;
 
@@ -106,20 +105,20 @@ impl Settings for ChannelSettings {
         }
     }
 
-    fn show(&self, field: usize, out: &mut [u8], at: usize) -> usize {
+    fn show(&self, field: usize, w: &mut Writer<'_>) {
         match field {
-            0 => Frequency::from_row(self.frequency).put(out, at),
-            1 => put_modulation(out, at, self.modulation),
-            2 => put_number(out, at, self.tone as u32),
-            3 => put_flag(out, at, self.tone_lock),
-            4 => put_flag(out, at, self.lockout),
-            5 => put_flag(out, at, self.priority),
-            6 => put_flag(out, at, self.attenuation),
-            7 => put_number(out, at, self.alert as u32),
-            8 => put_number(out, at, self.alert_level as u32),
-            9 => put_flag(out, at, self.recorded),
-            10 => put_number(out, at, self.audio_type as u32),
-            _ => put_bytes(out, at, b""),
+            0 => Frequency::from_row(self.frequency).put(w),
+            1 => put_modulation(w, self.modulation),
+            2 => w.put_number(self.tone as u32),
+            3 => put_flag(w, self.tone_lock),
+            4 => put_flag(w, self.lockout),
+            5 => put_flag(w, self.priority),
+            6 => put_flag(w, self.attenuation),
+            7 => w.put_number(self.alert as u32),
+            8 => w.put_number(self.alert_level as u32),
+            9 => put_flag(w, self.recorded),
+            10 => w.put_number(self.audio_type as u32),
+            _ => {}
         }
     }
 }

@@ -4,8 +4,7 @@ use sorts::{
     FieldRow, QuickKey, Sort, StartingName, put_flag, put_quick_key, read_flag, read_quick_key,
     read_small,
 };
-use text::buffer::put_bytes;
-use text::number::put_number;
+use text::writer::Writer;
 
 const FIELD_COUNT: usize = 4;
 
@@ -71,13 +70,13 @@ impl Settings for SystemSettings {
         }
     }
 
-    fn show(&self, field: usize, out: &mut [u8], at: usize) -> usize {
+    fn show(&self, field: usize, w: &mut Writer<'_>) {
         match field {
-            0 => put_quick_key(out, at, self.key),
-            1 => put_number(out, at, self.hold as u32),
-            2 => put_flag(out, at, self.lockout),
-            3 => put_number(out, at, self.delay as u32),
-            _ => put_bytes(out, at, b""),
+            0 => put_quick_key(w, self.key),
+            1 => w.put_number(self.hold as u32),
+            2 => put_flag(w, self.lockout),
+            3 => w.put_number(self.delay as u32),
+            _ => {}
         }
     }
 }

@@ -1,8 +1,7 @@
 // The settings of a talkgroup.
 use common::{HasName, Settings};
 use sorts::{FieldRow, Sort, StartingName, put_flag, read_between, read_flag, read_small};
-use text::buffer::put_bytes;
-use text::number::put_number;
+use text::writer::Writer;
 
 const FIELD_COUNT: usize = 7;
 
@@ -91,15 +90,15 @@ impl Settings for TalkgroupSettings {
         }
     }
 
-    fn show(&self, field: usize, out: &mut [u8], at: usize) -> usize {
+    fn show(&self, field: usize, w: &mut Writer<'_>) {
         match field {
-            0 => put_number(out, at, self.id as u32),
-            1 => put_flag(out, at, self.lockout),
-            3 => put_number(out, at, self.alert as u32),
-            4 => put_number(out, at, self.alert_level as u32),
-            5 => put_flag(out, at, self.recorded),
-            6 => put_number(out, at, self.audio_type as u32),
-            _ => put_bytes(out, at, b""),
+            0 => w.put_number(self.id as u32),
+            1 => put_flag(w, self.lockout),
+            3 => w.put_number(self.alert as u32),
+            4 => w.put_number(self.alert_level as u32),
+            5 => put_flag(w, self.recorded),
+            6 => w.put_number(self.audio_type as u32),
+            _ => {}
         }
     }
 }

@@ -4,7 +4,7 @@ use crate::settings::Settings;
 use sorts::{
     FieldRow, QuickKey, Sort, StartingName, put_flag, put_quick_key, read_flag, read_quick_key,
 };
-use text::buffer::put_bytes;
+use text::writer::Writer;
 
 const HIGHEST_KEY: u8 = 9;
 
@@ -53,11 +53,11 @@ impl Settings for GroupSettings {
         }
     }
 
-    fn show(&self, field: usize, out: &mut [u8], at: usize) -> usize {
+    fn show(&self, field: usize, w: &mut Writer<'_>) {
         match field {
-            0 => put_quick_key(out, at, self.key),
-            1 => put_flag(out, at, self.lockout),
-            _ => put_bytes(out, at, b""),
+            0 => put_quick_key(w, self.key),
+            1 => put_flag(w, self.lockout),
+            _ => {}
         }
     }
 }

@@ -14,6 +14,7 @@ use crate::trunk::TrunkSettings;
 use make::{Kind, Make};
 use sorts::FieldRow;
 use std::marker::PhantomData;
+use text::writer::Writer;
 
 // What a make has of its own.
 pub trait Layout {
@@ -189,15 +190,15 @@ impl<L: Layout> Make for MakeOf<L> {
         }
     }
 
-    fn show(record: &Self::Record, field: usize, out: &mut [u8], at: usize) -> usize {
+    fn show(record: &Self::Record, field: usize, w: &mut Writer<'_>) {
         match record {
-            Record::System { settings, .. } => settings.show(field, out, at),
-            Record::Site(settings) => settings.show(field, out, at),
-            Record::ChannelGroup(settings) => settings.show(field, out, at),
-            Record::TalkgroupGroup(settings) => settings.show(field, out, at),
-            Record::Channel(settings) => settings.show(field, out, at),
-            Record::Talkgroup(settings) => settings.show(field, out, at),
-            Record::TrunkFrequency(settings) => settings.show(field, out, at),
+            Record::System { settings, .. } => settings.show(field, w),
+            Record::Site(settings) => settings.show(field, w),
+            Record::ChannelGroup(settings) => settings.show(field, w),
+            Record::TalkgroupGroup(settings) => settings.show(field, w),
+            Record::Channel(settings) => settings.show(field, w),
+            Record::Talkgroup(settings) => settings.show(field, w),
+            Record::TrunkFrequency(settings) => settings.show(field, w),
         }
     }
 }

@@ -6,7 +6,7 @@ ghost use Rattle.sorts.specs.declared.sort.StartingName.{StartingName};
 use crate::name::Name;
 use crate::settings::Settings;
 use sorts::{FieldRow, Sort, StartingName};
-use text::buffer::put_bytes;
+use text::writer::Writer;
 
 // Settings of a kind that has a name.
 pub trait HasName: Settings {
@@ -65,10 +65,10 @@ impl<S: HasName> Settings for Named<S> {
         }
     }
 
-    fn show(&self, field: usize, out: &mut [u8], at: usize) -> usize {
+    fn show(&self, field: usize, w: &mut Writer<'_>) {
         match field.checked_sub(1) {
-            None => put_bytes(out, at, self.name.text()),
-            Some(setting) => self.settings.show(setting, out, at),
+            None => w.put_bytes(self.name.text()),
+            Some(setting) => self.settings.show(setting, w),
         }
     }
 }

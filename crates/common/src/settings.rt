@@ -1,10 +1,11 @@
 // What the settings of each kind of record do.
 ghost use Rattle.std.specs.Prelude.{◌≡◌, ◌+◌, ◌≤◌, [], length, slice_index_or};
-ghost use Rattle.text.specs.Buffer.{put};
+ghost use Rattle.text.specs.Writing.{Puts};
 ghost use Rattle.sorts.specs.Plans.{fields_from};
 ghost use Rattle.common.specs.Scheme.{Scheme, SchemeKeeps, row_in};
 
 use sorts::FieldRow;
+use text::writer::Writer;
 
 // The settings of one kind of record: its fields, each with a text.
 pub trait Settings: Copy {
@@ -31,12 +32,11 @@ pub trait Settings: Copy {
     fn write(&mut self, field: usize, text: &[u8])
         ensures after { self.new ≡ scheme.written self.old field text.now };
 
-    // Puts the text that a field shows.
-    fn show(&self, field: usize, out: &mut [u8], at: usize) -> usize
-        requires room { at + 24 ≤ length out.old }
-        ensures bound { result ≤ at + 24 }
-        ensures end { result ≡ at + length (slice_index_or (scheme.texts self.now) field []) }
-        ensures buffer { out.new ≡ put out.old at (slice_index_or (scheme.texts self.now) field []) };
+    // Writes the text that a field shows.
+    fn show(&self, field: usize, w: &mut Writer<'_>)
+        requires room { w.old.at + 24 ≤ length w.old.out.now }
+        ensures puts { Puts w.old w.new (slice_index_or (scheme.texts self.now) field []) }
+        ensures bound { w.new.at ≤ w.old.at + 24 };
 
     // The settings keep the rules for settings.
     ghost keeps: { SchemeKeeps scheme };

@@ -5,8 +5,7 @@ use sorts::{
     FieldRow, QuickKey, Sort, StartingName, put_flag, put_quick_key, read_flag, read_quick_key,
     read_small,
 };
-use text::buffer::put_bytes;
-use text::number::put_number;
+use text::writer::Writer;
 
 const HIGHEST_KEY: u8 = 99;
 
@@ -61,12 +60,12 @@ impl Settings for SiteSettings {
         }
     }
 
-    fn show(&self, field: usize, out: &mut [u8], at: usize) -> usize {
+    fn show(&self, field: usize, w: &mut Writer<'_>) {
         match field {
-            0 => put_quick_key(out, at, self.key),
-            1 => put_number(out, at, self.hold as u32),
-            2 => put_flag(out, at, self.lockout),
-            _ => put_bytes(out, at, b""),
+            0 => put_quick_key(w, self.key),
+            1 => w.put_number(self.hold as u32),
+            2 => put_flag(w, self.lockout),
+            _ => {}
         }
     }
 }

@@ -1,9 +1,8 @@
 // The settings of a trunk frequency, which has no name.
 use crate::settings::Settings;
 use sorts::{FieldRow, Sort, put_flag, read_flag, read_frequency, read_small};
-use text::buffer::put_bytes;
 use text::frequency::Frequency;
-use text::number::put_number;
+use text::writer::Writer;
 
 const LOWEST_NUMBER: u8 = 1;
 
@@ -60,12 +59,12 @@ impl Settings for TrunkSettings {
         }
     }
 
-    fn show(&self, field: usize, out: &mut [u8], at: usize) -> usize {
+    fn show(&self, field: usize, w: &mut Writer<'_>) {
         match field {
-            0 => Frequency::from_row(self.frequency).put(out, at),
-            1 => put_number(out, at, self.number as u32),
-            2 => put_flag(out, at, self.lockout),
-            _ => put_bytes(out, at, b""),
+            0 => Frequency::from_row(self.frequency).put(w),
+            1 => w.put_number(self.number as u32),
+            2 => put_flag(w, self.lockout),
+            _ => {}
         }
     }
 }

@@ -1,12 +1,13 @@
 // What every make of record keeps.
 ghost use Rattle.std.specs.Prelude.{◌≡◌, ℕ, ◌+◌, ◌≤◌, true, false, List, [], length, get_or, slice_index_or, slice_set};
-ghost use Rattle.text.specs.Buffer.{put};
+ghost use Rattle.text.specs.Writing.{Puts};
 ghost use Rattle.make.specs.declared.kind.Kind.{Kind};
 ghost use Rattle.make.specs.declared.kind.Kind.TheVariants.{System};
 ghost use Rattle.make.specs.Data.{MakeSpec, fields_of, first_of, name_at, legal_at, standard_at, starts_of};
 ghost use Rattle.make.specs.Rules.{Keeps};
 
 use crate::kind::Kind;
+use text::writer::Writer;
 
 pub trait Make {
     type Record: Copy;
@@ -66,12 +67,11 @@ pub trait Make {
     fn write(record: &mut Self::Record, field: usize, text: &[u8])
         ensures after { «record».new ≡ written «record».old field text.now };
 
-    // Puts the text that a field shows into `out` at the place `at`, and answers the place behind it.
-    fn show(record: &Self::Record, field: usize, out: &mut [u8], at: usize) -> usize
-        requires room { at + 24 ≤ length out.old }
-        ensures bound { result ≤ at + 24 }
-        ensures end { result ≡ at + length (slice_index_or (texts «record».now) field []) }
-        ensures buffer { out.new ≡ put out.old at (slice_index_or (texts «record».now) field []) };
+    // Writes the text that a field shows.
+    fn show(record: &Self::Record, field: usize, w: &mut Writer<'_>)
+        requires room { w.old.at + 24 ≤ length w.old.out.now }
+        ensures puts { Puts w.old w.new (slice_index_or (texts «record».now) field []) }
+        ensures bound { w.new.at ≤ w.old.at + 24 };
 
     // The data keeps the rules for makes.
     ghost keeps: { Keeps spec };

@@ -4,21 +4,9 @@ use Rattle.std.proofs.lemmas.List.{take-append-drop, take_more, take_all, get_or
 use Rattle.text.specs.Buffer.{put}
 use Rattle.text.specs.Writing.{Puts}
 use Rattle.text.specs.declared.writer.Writer.{Writer}
-use Rattle.text.proofs.Puts.{put_put}
+use Rattle.text.proofs.Puts.{puts_both}
 use Rattle.ledger.specs.Replies.{listed, reply}
 use Rattle.reply.specs.Lists.{Lists}
-
-join : (o o₁ o₂ a b : List ℕ) (at next : ℕ) → o₁ ≡ put o at a → next ≡ at + length a → o₂ ≡ put o₁ next b → at + length a ≤ length o → o₂ ≡ put o at (a ++ b)
-join o o₁ o₂ a b at next e₁ n e₂ fits = e₂ ∙ ap (λ z. put z next b) e₁ ∙ ap (λ k. put (put o at a) k b) n ∙ put_put o a b at fits
-
--- one text behind another
-pub puts_both : (w v u : Writer) (a b : List ℕ) → Puts w v a → Puts v u b → v.at ≤ length w.out.now → Puts w u (a ++ b)
-puts_both w v u a b p q fits =
-    record {
-      same_buffer = q.same_buffer ∙ p.same_buffer;
-      end = omega (arith, p.end, q.end, length-append a b);
-      buffer = join w.out.now v.out.now u.out.now a b w.at v.at p.buffer p.end q.buffer (omega (arith, p.end, fits));
-    }
 
 listed_append : (ts us : List (List ℕ)) → listed (ts ++ us) ≡ listed ts ++ listed us
 listed_append [] us = refl

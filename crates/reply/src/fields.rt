@@ -12,7 +12,7 @@ pub fn put_field<M: Make>(w: &mut Writer<'_>, record: &M::Record, field: usize)
     ensures texts { Lists w.old w.new (slice_index_or (M.Make.texts «record».now) field [] ∷ []) }
 {
     w.put_byte(b',');
-    w.at = M::show(record, field, w.out, w.at);
+    M::show(record, field, w);
 }
 
 // The fields from number `from` up to `to`, each a comma and its text.

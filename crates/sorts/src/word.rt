@@ -1,13 +1,12 @@
 // Values that words stand for: flags, quick keys, tags and modulations.
 ghost use Rattle.std.specs.Prelude.{◌≡◌, ◌+◌, ◌<◌, ◌≤◌, length, if◌then◌else◌, Some, None};
 ghost use Rattle.std.specs.Option.{ForSome};
-ghost use Rattle.text.specs.Buffer.{put};
+ghost use Rattle.text.specs.Writing.{Puts};
 ghost use Rattle.sorts.specs.Values.{flag_text, number_or, is_quick_key, quick_key_of, quick_key_text, is_tag, tag_of, tag_text, is_modulation, modulation_of, modulation_text};
 
 use crate::range::{read_between, read_small};
 use crate::value::{Modulation, QuickKey, Tag};
-use text::buffer::{put_byte, put_bytes};
-use text::number::put_number;
+use text::writer::Writer;
 
 // The word for no quick key.
 const NO_KEY: &[u8] = b".";
@@ -18,27 +17,25 @@ const NO_TAG: &[u8] = b"NONE";
 // The highest tag.
 const HIGHEST_TAG: u32 = 999;
 
-pub fn put_flag(out: &mut [u8], at: usize, flag: bool) -> usize
-    requires room { at + 5 ≤ length out.old }
-    ensures end { result ≡ at + length (flag_text flag) }
-    ensures bound { result ≤ at + 5 }
-    ensures buffer { out.new ≡ put out.old at (flag_text flag) }
+pub fn put_flag(w: &mut Writer<'_>, flag: bool)
+    requires room { w.old.at + 5 ≤ length w.old.out.now }
+    ensures puts { Puts w.old w.new (flag_text flag) }
+    ensures bound { w.new.at ≤ w.old.at + 5 }
 {
-    put_byte(out, at, if flag { b'1' } else { b'0' })
+    w.put_byte(if flag { b'1' } else { b'0' });
 }
 
 // Puts a number, or the word that stands for none.
-fn put_number_or(out: &mut [u8], at: usize, number: Option<u32>, word: &[u8]) -> usize
+fn put_number_or(w: &mut Writer<'_>, number: Option<u32>, word: &[u8])
     requires small { ForSome number (λ n. n < 100000) }
     requires word { length word.now ≤ 5 }
-    requires room { at + 5 ≤ length out.old }
-    ensures end { result ≡ at + length (number_or word.now number) }
-    ensures bound { result ≤ at + 5 }
-    ensures buffer { out.new ≡ put out.old at (number_or word.now number) }
+    requires room { w.old.at + 5 ≤ length w.old.out.now }
+    ensures puts { Puts w.old w.new (number_or word.now number) }
+    ensures bound { w.new.at ≤ w.old.at + 5 }
 {
     match number {
-        Some(n) => put_number(out, at, n),
-        None => put_bytes(out, at, word),
+        Some(n) => w.put_number(n),
+        None => w.put_bytes(word),
     }
 }
 
@@ -53,13 +50,12 @@ pub fn read_quick_key(text: &[u8], high: u8) -> Option<QuickKey>
     }
 }
 
-pub fn put_quick_key(out: &mut [u8], at: usize, key: QuickKey) -> usize
-    requires room { at + 5 ≤ length out.old }
-    ensures end { result ≡ at + length (quick_key_text key) }
-    ensures bound { result ≤ at + 5 }
-    ensures buffer { out.new ≡ put out.old at (quick_key_text key) }
+pub fn put_quick_key(w: &mut Writer<'_>, key: QuickKey)
+    requires room { w.old.at + 5 ≤ length w.old.out.now }
+    ensures puts { Puts w.old w.new (quick_key_text key) }
+    ensures bound { w.new.at ≤ w.old.at + 5 }
 {
-    put_number_or(out, at, key.map(u32::from), NO_KEY)
+    put_number_or(w, key.map(u32::from), NO_KEY);
 }
 
 // The tag that a text stands for.
@@ -73,13 +69,12 @@ pub fn read_tag(text: &[u8]) -> Option<Tag>
     }
 }
 
-pub fn put_tag(out: &mut [u8], at: usize, tag: Tag) -> usize
-    requires room { at + 5 ≤ length out.old }
-    ensures end { result ≡ at + length (tag_text tag) }
-    ensures bound { result ≤ at + 5 }
-    ensures buffer { out.new ≡ put out.old at (tag_text tag) }
+pub fn put_tag(w: &mut Writer<'_>, tag: Tag)
+    requires room { w.old.at + 5 ≤ length w.old.out.now }
+    ensures puts { Puts w.old w.new (tag_text tag) }
+    ensures bound { w.new.at ≤ w.old.at + 5 }
 {
-    put_number_or(out, at, tag.map(u32::from), NO_TAG)
+    put_number_or(w, tag.map(u32::from), NO_TAG);
 }
 
 impl Modulation {
@@ -116,11 +111,10 @@ pub fn read_modulation(text: &[u8]) -> Option<Modulation>
         .find(|modulation| text == modulation.text())
 }
 
-pub fn put_modulation(out: &mut [u8], at: usize, modulation: Modulation) -> usize
-    requires room { at + 5 ≤ length out.old }
-    ensures end { result ≡ at + length (modulation_text modulation) }
-    ensures bound { result ≤ at + 5 }
-    ensures buffer { out.new ≡ put out.old at (modulation_text modulation) }
+pub fn put_modulation(w: &mut Writer<'_>, modulation: Modulation)
+    requires room { w.old.at + 5 ≤ length w.old.out.now }
+    ensures puts { Puts w.old w.new (modulation_text modulation) }
+    ensures bound { w.new.at ≤ w.old.at + 5 }
 {
-    put_bytes(out, at, modulation.text())
+    w.put_bytes(modulation.text());
 }
