@@ -37,15 +37,13 @@ line_said S L L' o o' t rest rest' cut say next = (
 )
 
 -- a line that was copied to a buffer
-pub copied : (o o' t : List ℕ) (len n : ℕ) → length o ≡ 257 → len ≡ min (length t) 257 → n ≡ 0 + length (take (len - 0) t) → o' ≡ put o 0 (take (len - 0) t) → (n ≤ length o) × (take n o' ≡ take 257 t)
-copied o o' t len n long m e b =
-    let short : len - 0 ≤ length t = omega (arith, m) in
-    let k = length-take-le (len - 0) t short in
-    let same : take (len - 0) t ≡ take 257 t = by_length t len m in
-    (omega (arith, e, k, m, long), ap (take n) b ∙ take_at (take (len - 0) t) (drop (0 + length (take (len - 0) t)) o) n (omega (arith, e)) ∙ same)
+pub copied : (p b t : List ℕ) (len : ℕ) → len ≡ min (length t) 257 → p ≡ take len t → take len (p ++ drop len b) ≡ take 257 t
+copied p b t len m e =
+    let k : length p ≡ len = ap length e ∙ length-take-le len t (omega (arith, m)) in
+    take_at p (drop len b) len k ∙ e ∙ by_length
   where
-    by_length : (t : List ℕ) (len : ℕ) → len ≡ min (length t) 257 → take (len - 0) t ≡ take 257 t
-    by_length t len m = ⊎_elim (λ h. let e : len - 0 ≡ 257 = omega (arith, m, h) in ap (λ j. take j t) e) (λ h. take_all (len - 0) t (omega (arith, m, h)) ∙ sym (take_all 257 t (omega (arith, h)))) (cases_lt 257 (length t))
+    by_length : take len t ≡ take 257 t
+    by_length = ⊎_elim (λ h. let e : len ≡ 257 = omega (arith, m, h) in ap (λ j. take j t) e) (λ h. take_all len t (omega (arith, m, h)) ∙ sym (take_all 257 t (omega (arith, h)))) (cases_lt 257 (length t))
 
 -- a whole line of the sheet at the front of a buffer
 pub front_said : (o o' t : List ℕ) (n : ℕ) → Wrote o o' n t → length o' ≡ length o → Said o o' t n

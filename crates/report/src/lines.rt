@@ -8,7 +8,6 @@ use engine::{Session, command};
 use make::Make;
 use memory::Memory;
 use std::alloc::AllocError;
-use text::buffer::put_bytes;
 
 // A line is cut to this many bytes.
 const LINE_BUFFER: usize = 257;
@@ -60,7 +59,8 @@ fn copy_line(buffer: &mut [u8], line: &[u8]) -> usize
     ensures copied { take result buffer.new ≡ take 257 line.now }
 {
     let len = line.len().min(LINE_BUFFER);
-    put_bytes(buffer, 0, &line[0..len])
+    buffer[..len].copy_from_slice(&line[..len]);
+    len
 }
 
 // Copies a line to a buffer of zeros, and gives it to the engine; what it has beyond that is dropped.
