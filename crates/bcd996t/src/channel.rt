@@ -1,4 +1,4 @@
-// The settings of a channel.
+// The settings of a channel. Fields that the other make or another kind has too are listed again, as each table in the documents lists them.
 use common::{HasName, Settings};
 use sorts::{
     FieldRow, Modulation, Sort, StartingName, put_flag, put_modulation, read_flag, read_frequency,

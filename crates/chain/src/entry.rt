@@ -1,4 +1,4 @@
-// Reads and changes of one link entry.
+// Reads and changes of one link entry. Blocks are numbers here as in the entries, 0 for none: one proof about rows of numbers serves both directions.
 ghost use Rattle.std.specs.Prelude.{◌≡◌, ◌-◌, ◌≤◌, length, slice_set};
 ghost use Rattle.chain.specs.declared.link.Link.TheVariants.{Free};
 ghost use Rattle.chain.specs.Entry.{Entry, entry, changed, with_next, with_previous, with_beside, with_ends, ends_of, ends_with, ends_without};

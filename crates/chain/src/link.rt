@@ -3,6 +3,7 @@ ghost use Rattle.std.specs.Prelude.{◌≡◌};
 ghost use Rattle.chain.specs.Entry.{found};
 
 // A block, by its number from 1 to the block count.
+// That it is not 0 is no ghost field: the definitions make indexes of numbers, and each would carry a proof.
 #[derive(Clone, Copy, PartialEq, Eq)]
 pub struct Index {
     pub(crate) number: u32,

@@ -8,6 +8,7 @@ ghost use Rattle.chain.specs.View.{blocks_of, chain_of};
 use crate::chains::Chains;
 use crate::link::{Chain, Ends, Index, Link, Member};
 
+// Next and previous, head and tail stay two each, and take no side as a parameter: the definitions have both.
 impl<'a> Chains<'a> {
     // What block `x` is in its chain; none where it is free, or is no block.
     fn member(&self, x: Index) -> Option<Member>

@@ -4,6 +4,7 @@ ghost use Rattle.chain.specs.Entry.{link_at, ends_in, Within, hung, root_with};
 
 use crate::link::{Chain, Ends, Link};
 
+// Blocks are entries of a lent table, by number: the engine has no heap.
 // The links of the blocks 1 to `count`, the ends of the root's chain, and the front and the height of the free stack.
 // `count` stands beside the lent links: contracts say that those behind it stay as they are.
 #[derive(Drop)]

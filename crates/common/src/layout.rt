@@ -63,6 +63,7 @@ fn row<L: Layout>(kind: Kind, field: usize) -> FieldRow
     }
 }
 
+// A match cannot give a type, so each question about a kind picks its settings anew.
 impl<L: Layout> Make for MakeOf<L> {
     type Record = Record<L::System, L::Channel, L::Talkgroup>;
 

@@ -9,7 +9,7 @@ use std::marker::Model;
 // The most bytes of a name.
 const LONGEST_NAME: usize = 16;
 
-// Behind the bytes that count stand zeros.
+// Behind the bytes that count stand zeros. An `ArrayString` counts in a `usize`: with it a record would be longer than the 48 bytes that a test allows.
 #[derive(Clone, Copy)]
 pub struct Name {
     bytes: [u8; LONGEST_NAME],

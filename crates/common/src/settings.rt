@@ -8,6 +8,7 @@ use sorts::FieldRow;
 use text::writer::Writer;
 
 // The settings of one kind of record: its fields, each with a text.
+// Each type lists its fields in `row`, `write` and `show`: a table of them would hold function pointers.
 pub trait Settings: Copy {
     // What the settings hold, show and become.
     ghost scheme: { Scheme Self };

@@ -16,6 +16,8 @@ use make::Make;
 use memory::Memory;
 use reply::told::say;
 
+// Each of the three calls looks at its buffer first: a closure for what follows would need a longer contract.
+
 // A reply buffer has at least this many bytes.
 pub const LEAST_BUFFER: usize = 600;
 

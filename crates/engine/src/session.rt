@@ -1,4 +1,4 @@
-// What a session keeps beside the memory.
+// What a session keeps, beside the memory and not in it: most functions are lent the memory alone.
 use ledger::mode::Mode;
 
 #[derive(Clone, Copy)]

@@ -14,6 +14,7 @@ use make::Make;
 use memory::Memory;
 
 // The living record that a text names, if the command is for such a record.
+// Command and text stay two parameters: a struct of both would live for one call.
 pub fn find_target<M: Make>(
     memory: &Memory<'_, M>,
     command: Command,

@@ -31,7 +31,7 @@ pub struct Parts<'a> {
 }
 
 // The bytes of a field: none where it is left out.
-pub fn bytes_of<'a>(field: Option<Part<'a>>) -> &'a [u8]
+fn bytes_of<'a>(field: Option<Part<'a>>) -> &'a [u8]
     ensures value { result.now ≡ text_of field.entry }
 {
     field.map_or(&[], |part| part.bytes)

@@ -42,7 +42,7 @@ impl<'a, M: Make> Memory<'a, M> {
         self.pool.delete(x);
     }
 
-    // Writes the fields that a cursor has still to hand out into record `x`. All of them are left out or legal there.
+    // Writes the fields that are still to come into record `x`. All of them are left out or legal there.
     pub fn write(&mut self, x: Index, fields: Fields<'_>)
         requires living { living (store_of M.Make self.old.pool) x.number ≡ true }
         requires legal { fields_legal M.Make.spec (holding (store_of M.Make self.old.pool) x.number).kind 0 (fields_left fields) ≡ true }

@@ -12,6 +12,7 @@ use crate::memory::Memory;
 use chain::{Chain, Index};
 use make::Make;
 
+// The pool's questions, answered in the words of the store. That a record is living stays a clause: it holds of a block at one moment.
 impl<'a, M: Make> Memory<'a, M> {
     // How many blocks there are.
     pub fn count(&self) -> u32
@@ -40,7 +41,11 @@ impl<'a, M: Make> Memory<'a, M> {
     pub fn get(&self, x: Index) -> Option<M::Record>
         ensures { MatchOption result (living (store_of M.Make self.now.pool) x.number ≡ false) (λ r. (living (store_of M.Make self.now.pool) x.number ≡ true) × (meaning M.Make r ≡ holding (store_of M.Make self.now.pool) x.number)) }
     {
-        if self.is_living(x) { Some(self.read(x)) } else { None }
+        if self.is_living(x) {
+            Some(self.read(x))
+        } else {
+            None
+        }
     }
 
     // The record in block `x`, which is living.

@@ -1,4 +1,5 @@
 // A pool of blocks for any sort of element: chains of blocks, and a lent table with the element of each block.
+// Two tables and no table of pairs: both are lent, and links are of one type for every sort of element.
 ghost use Rattle.std.specs.Prelude.{◌≡◌, ℕ, ◌≤◌, min, length, drop};
 ghost use Rattle.chain.specs.Blocks.{opened};
 ghost use Rattle.chain.specs.Tables.{Spares};

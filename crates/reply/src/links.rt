@@ -34,7 +34,7 @@ pub enum Links {
 }
 
 // Two indexes, each -1 for no record.
-pub fn put_pair(w: &mut Writer<'_>, first: Option<Index>, second: Option<Index>)
+pub(crate) fn put_pair(w: &mut Writer<'_>, first: Option<Index>, second: Option<Index>)
     requires first { Proper first }
     requires second { Proper second }
     requires room { w.old.at + 12 ≤ length w.old.out.now }
@@ -68,7 +68,7 @@ fn put_chained(w: &mut Writer<'_>, chained: Chained)
 }
 
 // All links of a record.
-pub fn put_links(w: &mut Writer<'_>, links: Links)
+pub(crate) fn put_links(w: &mut Writer<'_>, links: Links)
     requires proper { AllProper links }
     requires room { w.old.at + 36 ≤ length w.old.out.now }
     ensures bound { w.new.at ≤ w.old.at + 36 }

@@ -1,4 +1,5 @@
 // The pieces of a reply: each a comma and a text.
+// `Proper` stays a clause: a chain may have blocks of more than five digits, so it is no invariant of `Index`.
 ghost use Rattle.std.specs.Prelude.{◌≡◌, ℕ, ◌+◌, ◌<◌, ◌≤◌, [], ◌∷◌, ◌++◌, length, decimal};
 ghost use Rattle.text.specs.Writing.{Puts};
 ghost use Rattle.ledger.specs.Ledger.{number_of};
@@ -44,7 +45,7 @@ pub fn put_index(w: &mut Writer<'_>, index: Option<Index>)
 }
 
 // A comma and a number.
-pub fn put_count(w: &mut Writer<'_>, n: u32)
+pub(crate) fn put_count(w: &mut Writer<'_>, n: u32)
     requires small { n < 100000 }
     requires room { w.old.at + 6 ≤ length w.old.out.now }
     ensures bound { w.new.at ≤ w.old.at + 6 }

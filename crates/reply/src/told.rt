@@ -94,6 +94,7 @@ fn put_answer<M: Make>(w: &mut Writer<'_>, answer: &Result<Reply<M::Record>, Ref
 }
 
 // Writes the reply to a line at the front of a buffer, and answers how many bytes it is.
+// Room stays a clause: the caller has looked once for the least buffer.
 pub fn say<M: Make>(answer: &Result<Reply<M::Record>, Refusal>, out: &mut [u8]) -> usize
     requires showable { IfOk answer.now (λ x. Showable x.told) }
     requires room { 600 ≤ length out.old }

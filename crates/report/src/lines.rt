@@ -49,7 +49,7 @@ fn answer_line<M: Make>(
     out.extend_from_slice(&buffer[..n])
 }
 
-// Copies as much of a line as the buffer holds, and answers how much that is.
+// Copies as much of a line as the program's line buffer holds, and answers how much that is.
 fn copy_line(buffer: &mut [u8], line: &[u8]) -> usize
     requires room { length buffer.old ≡ 257 }
     ensures within { result ≤ length buffer.old }

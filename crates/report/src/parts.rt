@@ -37,7 +37,11 @@ fn row_at<M: Make>(memory: &Memory<'_, M>, kind: Kind, number: u32) -> Option<In
 {
     let x = Index::new(number)?;
     let record = memory.get(x)?;
-    if kind == M::kind(&record) { Some(x) } else { None }
+    if kind == M::kind(&record) {
+        Some(x)
+    } else {
+        None
+    }
 }
 
 // Adds the row of record `x`, and before it the names of its kind where they are not `named` yet.

@@ -43,7 +43,7 @@ fn put_columns<M: Make>(w: &mut Writer<'_>, kind: Kind)
     w.put_byte(b'\r');
 }
 
-// Writes the line of names of a kind at the front of a buffer, and answers how many bytes it is.
+// Writes the line of names of a kind at the front of a buffer, and answers how many bytes it is. Room stays a clause, as for a reply.
 pub fn put_names<M: Make>(kind: Kind, out: &mut [u8]) -> usize
     requires room { 600 ≤ length out.old }
     ensures { Wrote out.old out.new result (names M.Make.spec kind) }

@@ -39,6 +39,8 @@ fn put_number_or(w: &mut Writer<'_>, number: Option<u32>, word: &[u8])
     }
 }
 
+// Quick keys and tags are read by two functions: each value has its own width.
+
 // The quick key up to `high` that a text stands for.
 pub fn read_quick_key(text: &[u8], high: u8) -> Option<QuickKey>
     ensures value { result ≡ (if is_quick_key high text.now then Some (quick_key_of text.now) else None) }

@@ -5,7 +5,7 @@ ghost use Rattle.text.specs.Number.{number_in, fixed};
 // A number that is read has at most this many digits.
 const NUMBER_DIGITS: usize = 5;
 
-// The number that one to `most` digits write.
+// The number that one to `most` digits write. The library's `parse` takes a `str`, a sign, and any number of digits.
 #[tactic(auto, using(crate::proofs::Steps::ten_fits))]
 pub(crate) fn read_digits(text: &[u8], most: usize) -> Option<u32>
     requires { most ≤ 9 }
@@ -31,7 +31,7 @@ pub fn read_number(text: &[u8]) -> Option<u32>
     read_digits(text, NUMBER_DIGITS)
 }
 
-// Fills `out` with the last digits of `n`, as many as it has places.
+// Fills `out` with the last digits of `n`, as many as it has places. It calls itself as the definition does; what `fmt` writes no contract says.
 pub(crate) fn fill_digits(n: u32, out: &mut [u8])
     ensures { out.new ≡ fixed (length out.old) n }
 {
