@@ -1,4 +1,4 @@
-// What the makes hold alike: names, records, and the settings of sites, groups and trunk frequencies.
+// What makes have in common: names, the settings of sites, groups and trunk frequencies, what settings are (`Settings`), and the make of a `Layout`.
 #![tactic(auto)]
 
 mod group;
