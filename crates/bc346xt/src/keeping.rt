@@ -24,7 +24,7 @@ pub type Bc346xt = MakeOf<Bc346xtLayout>;
 // A record of the make.
 pub type Record = <Bc346xt as Make>::Record;
 
-// The make keeps every rule for makes, as its table says.
+// The make keeps every rule for makes, as its table says. Each make has this theorem of its own, by its table's name.
 pub fn keeps_rules()
     ensures law { Keeps bc346xt }
     ensures table { ⟦<Bc346xt as Make>⟧.spec ≡ bc346xt }

@@ -24,7 +24,7 @@ pub type Bcd996t = MakeOf<Bcd996tLayout>;
 // A record of the make.
 pub type Record = <Bcd996t as Make>::Record;
 
-// The make keeps every rule for makes, as its table says.
+// The make keeps every rule for makes, as its table says. Each make has this theorem of its own, by its table's name.
 pub fn keeps_rules()
     ensures law { Keeps bcd996t }
     ensures table { ⟦<Bcd996t as Make>⟧.spec ≡ bcd996t }
