@@ -69,6 +69,7 @@ fn add_part<M: Make>(
 ) -> Result<(), AllocError>
     ensures { OnOk result (out.new.items ≡ out.old.items ++ part M.Make.spec (store_of M.Make memory.now.pool) kind) }
 {
+    // What the loop has done, and no flag beside a value; an iterator of rows would be asked for its first one too.
     let mut named = false;
     for before in 0..memory.count() {
         if let Some(x) = row_at(memory, kind, before + 1) {
