@@ -16,5 +16,6 @@ pub use session::Session;
 
 // What testing and writing a line apart builds on. Only `set` requires something, which its two callers have shown.
 pub use calls::LEAST_BUFFER;
+pub use line::parts::LONGEST_LINE;
 pub use setting::set;
 pub use target::find_target;

@@ -24,7 +24,7 @@ pub fn find_target<M: Make>(
 {
     let x = read_index(text, memory.count()).ok_or(Refusal::Wrong)?;
     let record = memory.get(x).ok_or(Refusal::Wrong)?;
-    if is_for::<M>(command, &record) {
+    if is_for(command, M::kind(&record), M::system_type(&record)) {
         Ok(x)
     } else {
         Err(Refusal::Wrong)

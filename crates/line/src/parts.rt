@@ -31,7 +31,7 @@ pub struct Parts<'a> {
 }
 
 // The bytes of a field: none where it is left out.
-fn bytes_of<'a>(field: Option<Part<'a>>) -> &'a [u8]
+pub fn bytes_of<'a>(field: Option<Part<'a>>) -> &'a [u8]
     ensures value { result.now ≡ text_of field.entry }
 {
     field.map_or(&[], |part| part.bytes)
@@ -73,7 +73,7 @@ pub fn read_line<'a>(line: &'a [u8]) -> Result<Parts<'a>, Refusal>
 }
 
 // The command of a line and its fields, or `None` where the command is unknown.
-fn parts_of<'a>(line: &'a [u8]) -> Option<Parts<'a>>
+pub fn parts_of<'a>(line: &'a [u8]) -> Option<Parts<'a>>
     ensures value { MatchOption result (command line.now ≡ None) (λ p. (command line.now ≡ Some p.command) × (fields_left p.arguments.fields ≡ fields line.now)) }
 {
     let mut fields = Fields::of(line);

@@ -4,14 +4,14 @@ ghost use Rattle.ledger.specs.Ledger.{Holding, type_for};
 ghost use Rattle.ledger.specs.Records.{is_for, member_kind};
 
 use ledger::command::Command;
-use make::{Kind, Make};
+use make::Kind;
 
 // Whether a command is for a record of that kind and, if it is a system, that type.
-pub fn is_for<M: Make>(command: Command, held: &M::Record) -> bool
-    ensures value { (ts : List (List ℕ)) → result ≡ is_for command (record { kind = M.Make.kindof held.now; system_type = type_for (M.Make.kindof held.now) (M.Make.systemtype held.now); texts = ts }) }
+pub fn is_for(command: Command, kind: Kind, system_type: u8) -> bool
+    ensures value { (ts : List (List ℕ)) → result ≡ is_for command (record { kind = kind; system_type = type_for kind system_type; texts = ts }) }
 {
-    let conventional = M::system_type(held) == 0;
-    match (command, M::kind(held)) {
+    let conventional = system_type == 0;
+    match (command, kind) {
         (Command::Fwd | Command::Rev, _) => true,
         (Command::Agc, Kind::System) => conventional,
         (Command::Ast | Command::Agt | Command::Trn, Kind::System) => !conventional,

@@ -6,7 +6,7 @@ use make::Make;
 use text::writer::Writer;
 
 // A comma and the text that a field shows.
-fn put_field<M: Make>(w: &mut Writer<'_>, record: &M::Record, field: usize)
+pub fn put_field<M: Make>(w: &mut Writer<'_>, record: &M::Record, field: usize)
     requires room { w.old.at + 25 ≤ length w.old.out.now }
     ensures bound { w.new.at ≤ w.old.at + 25 }
     ensures texts { Lists w.old w.new (slice_index_or (M.Make.texts «record».now) field [] ∷ []) }

@@ -68,7 +68,7 @@ fn put_chained(w: &mut Writer<'_>, chained: Chained)
 }
 
 // All links of a record.
-pub(crate) fn put_links(w: &mut Writer<'_>, links: Links)
+pub fn put_links(w: &mut Writer<'_>, links: Links)
     requires proper { AllProper links }
     requires room { w.old.at + 36 ≤ length w.old.out.now }
     ensures bound { w.new.at ≤ w.old.at + 36 }

@@ -45,7 +45,7 @@ pub fn put_index(w: &mut Writer<'_>, index: Option<Index>)
 }
 
 // A comma and a number.
-pub(crate) fn put_count(w: &mut Writer<'_>, n: u32)
+pub fn put_count(w: &mut Writer<'_>, n: u32)
     requires small { n < 100000 }
     requires room { w.old.at + 6 ≤ length w.old.out.now }
     ensures bound { w.new.at ≤ w.old.at + 6 }
