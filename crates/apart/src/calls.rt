@@ -13,11 +13,10 @@ ghost use Rattle.apart.specs.Verdicts.{told_of, tested_of, buffer_after, passed_
 use crate::judging::judge;
 use crate::lines::{TestError, TestedLine, UntestedLine};
 use crate::writing::spend;
-use engine::{LEAST_BUFFER, Session};
+use engine::{LEAST_BUFFER, Session, say};
 use ledger::answer::CallError;
 use make::Make;
 use memory::Memory;
-use reply::told::say;
 
 // Tests a set line, and changes nothing but the buffer, which gets the refusal. A buffer that is too short gets number 1, and a line that passes leaves the buffer.
 pub fn test<'a, M: Make>(
@@ -34,7 +33,7 @@ pub fn test<'a, M: Make>(
     }
     match judge(memory, session, untested.line) {
         Ok(tested) => Ok(tested),
-        Err(refusal) => Err(TestError::Refused(say::<M>(&Err(refusal), out))),
+        Err(refusal) => Err(TestError::Refused(say(memory, &Err(refusal), out))),
     }
 }
 
@@ -56,5 +55,5 @@ pub fn write<M: Make>(
         return Err(CallError::ShortBuffer);
     }
     let answer = spend(memory, session, tested);
-    Ok(say::<M>(&answer, out))
+    Ok(say(memory, &answer, out))
 }

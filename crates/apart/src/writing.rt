@@ -4,7 +4,8 @@ ghost use Rattle.text.specs.Fields.{fields_left};
 ghost use Rattle.memory.specs.View.{store_of};
 ghost use Rattle.reply.specs.Told.{said_of, Showable};
 ghost use Rattle.engine.specs.Gives.{Gives, Hears};
-ghost use Rattle.engine.specs.View.{ledger_of};
+ghost use Rattle.engine.specs.View.{ledger_of, read_in};
+ghost use Rattle.ledger.specs.Ledger.{living};
 ghost use Rattle.apart.specs.Testing.{holds, put_into, write};
 ghost use Rattle.apart.specs.Verdicts.{passed_of};
 
@@ -12,7 +13,7 @@ use crate::lines::{Found, TestedLine};
 use engine::{Session, set};
 use ledger::mode::Mode;
 use ledger::refusal::Refusal;
-use line::parts::{Parts, read_line};
+use line::parts::{Parts, parts_of};
 use make::Make;
 use memory::Memory;
 use reply::told::{Reply, Told};
@@ -32,7 +33,7 @@ fn put_into<M: Make>(
     memory: &mut Memory<'_, M>,
     parts: Parts<'_>,
     found: Found,
-) -> Result<Told<M::Record>, Refusal>
+) -> Result<Told, Refusal>
     ensures { Gives M.Make memory.old.pool memory.new.pool parts.entry.command result (λ L. put_into M.Make.spec L parts.entry.command found.index.number found.kind (fields_left parts.entry.arguments.fields)) }
 {
     let arguments = parts.arguments;
@@ -47,14 +48,14 @@ pub(crate) fn spend<M: Make>(
     memory: &mut Memory<'_, M>,
     session: &Session,
     tested: TestedLine<'_>,
-) -> Result<Reply<M::Record>, Refusal>
-    ensures hears { Hears M.Make memory.old.pool memory.new.pool (said_of M.Make result) (ledger_of M.Make session.now memory.new.pool) (write M.Make.spec (ledger_of M.Make session.now memory.old.pool) (passed_of tested.entry)) }
-    ensures shows { IfOk result (λ x. Showable x.told) }
+) -> Result<Reply, Refusal>
+    ensures hears { Hears M.Make memory.old.pool memory.new.pool (said_of (read_in M.Make.spec (store_of M.Make memory.new.pool)) result) (ledger_of M.Make session.now memory.new.pool) (write M.Make.spec (ledger_of M.Make session.now memory.old.pool) (passed_of tested.entry)) }
+    ensures shows { IfOk result (λ x. Showable (living (store_of M.Make memory.new.pool)) x.told) }
 {
     if session.mode == Mode::Off {
         return Err(Refusal::ModeOff);
     }
-    let parts = read_line(tested.line)?;
+    let parts = parts_of(tested.line).ok_or(Refusal::Wrong)?;
     let told = put_into(memory, parts, tested.found)?;
     Ok(Reply {
         command: parts.command,

@@ -4,7 +4,7 @@ use mathlib.Core.List.{is_set}
 use mathlib.Core.HLevel.{×_prop}
 use native.Mathlib.Nat.{ℕ_set}
 use native.Mathlib.Bridge.{le_prop}
-use Rattle.std.proofs.lemmas.Bool.{cases_eq, cases_lt, eq-eqb, ne_eqb, lt-ltb, le-ltb}
+use Rattle.std.proofs.lemmas.Bool.{cases_eq, cases_lt, eq-eqb, ne_eqb, lt-ltb, le-ltb, ltb-true}
 use Rattle.std.proofs.lemmas.Bool.Decides.{nat_tests}
 use Rattle.chain.specs.declared.link.Chain.{Chain}
 use Rattle.chain.specs.declared.link.Link.{Link}
@@ -12,7 +12,7 @@ use Rattle.chain.specs.declared.link.Link.TheVariants.{Free, Used}
 use Rattle.chain.specs.declared.tables.Tables.{Tables}
 use Rattle.chain.specs.Entry.{member_of, Entry, entry, nowhere, link_at, ends_in, number, chain_at, first_of, second_of}
 use Rattle.chain.specs.Rows.{head_or, last_or, tick, occ, Row}
-use Rattle.chain.specs.Blocks.{Blocks, chain, occ_all, is_used, Living, home_in, home_of, next_of, prev_from, prev_of, link_by, link_of}
+use Rattle.chain.specs.Blocks.{Blocks, chain, occ_all, is_used, Living, home_in, home_of, next_of, prev_from, prev_of, row_of, next_in, link_by, link_of}
 use Rattle.chain.specs.Kept.{Stack}
 use Rattle.chain.specs.Tables.{Sound, blocks_in, chains_in, chain_in, free_in}
 use Rattle.chain.specs.declared.link.Branch.TheVariants.{First, Second}
@@ -123,6 +123,18 @@ used_test L x = by (home_of L x) ∙ elim (cases_lt 0 (occ_all x L.chains)) [
     by : (h : Option Chain) → is_some (member_of (link_by L x h)) ≡ is_some h
     by None = refl
     by (Some c) = refl
+
+-- of a block in use: where it stands in the table, and the block behind it, by its link
+module _ (p : Tables) (s : Sound p) (x : ℕ) (u : is_used (blocks_in p) x ≡ true) where
+  pub in_table : (1 ≤ x) × (x ≤ p.count)
+  in_table = (by_view p _ le_prop (loose p s) (λ h. (used_within _ _ _ _ _ h.kept x (ltb-true 0 _ u)).0), by_view p _ le_prop (loose p s) (λ h. (used_within _ _ _ _ _ h.kept x (ltb-true 0 _ u)).1))
+
+  pub next_is : (link_at p.links.now x).next ≡ next_in (blocks_in p) x
+  next_is = ap (λ l. (entry l).next) (link_is p s x in_table.0 in_table.1) ∙ by (home_of (blocks_in p) x) (used_test (blocks_in p) x ∙ u)
+    where
+      by : (h : Option Chain) → is_some (member_of (link_by (blocks_in p) x h)) ≡ true → (entry (link_by (blocks_in p) x h)).next ≡ next_of x (row_of (blocks_in p) h)
+      by None e = cc
+      by (Some c) e = refl
 
 module _ (p : Tables) (d : Chain) (s : Sound p) (u : Living (blocks_in p) d) where
   pub ends_head : (ends_in p.root (link_at p.links.now) d).head ≡ head_or 0 (chain_in p (number d))

@@ -1,5 +1,5 @@
 // What is read of a block or a chain, in constant time.
-ghost use Rattle.std.specs.Prelude.{◌≡◌};
+ghost use Rattle.std.specs.Prelude.{◌≡◌, true};
 ghost use Rattle.chain.specs.Entry.{found, number, member_of};
 ghost use Rattle.chain.specs.Rows.{head_or, last_or};
 ghost use Rattle.chain.specs.Blocks.{Living, is_used, home_of, owner_of, next_in, prev_in, ends_by, link_of};
@@ -54,6 +54,17 @@ impl<'a> Chains<'a> {
         ensures { result ≡ found (next_in (blocks_of self.now) x.number) }
     {
         Index::new(self.member(x)?.next)
+    }
+
+    // The block behind `x`, which is in use: a walk stands at such a block, and need not ask again.
+    pub(crate) fn behind(&self, x: Index) -> Option<Index>
+        requires { is_used (blocks_of self.now) x.number ≡ true }
+        ensures { result ≡ found (next_in (blocks_of self.now) x.number) }
+    {
+        match self.tables.links[x.number as usize - 1] {
+            Link::Used(member) => Index::new(member.next),
+            Link::Free(_) => None,
+        }
     }
 
     // The block before `x` in its chain.

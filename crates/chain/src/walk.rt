@@ -26,7 +26,7 @@ impl<'c, 'a> Iterator for Walk<'c, 'a> {
 
     fn next(&mut self) -> Option<Index> {
         let x = self.at?;
-        self.at = self.chains.next(x);
+        self.at = self.chains.behind(x);
         Some(x)
     }
 }

@@ -21,7 +21,7 @@ use Rattle.reply.specs.declared.told.Told.{Told}
 use Rattle.engine.specs.Chains.{chain_under}
 use Rattle.engine.specs.Gives.{Gives}
 
-module _ {M R : Type 0} (make : MakeOf M R) (p p' : Pool R) (c : Command) (r : Result (Told R) Refusal) where
+module _ {M R : Type 0} (make : MakeOf M R) (p p' : Pool R) (c : Command) (r : Result Told Refusal) where
   -- what it gives by one account, it gives by another that says the same of this store
   pub gives_as : (x y : Store → Outcome) → Gives make p p' c r x → x (store_of make p) ≡ y (store_of make p) → Gives make p p' c r y
   gives_as x y h e =
@@ -35,12 +35,12 @@ module _ {M R : Type 0} (make : MakeOf M R) (p p' : Pool R) (c : Command) (r : R
   gives_at t i k h e = gives_as (λ L. k L i) (λ L. at L (t L) (k L)) h (sym (ap (λ z. at (store_of make p) z (k (store_of make p))) e))
 
 -- a command with one index, done at the record that the index names
-one_done : (S : MakeSpec) (L : Store) (F : Command → ℕ → Outcome) (c k : Command) (t : List ℕ) (fs : List (List ℕ)) → c ≡ k → t ≡ slice_index_or fs 0 [] → at L (target L k (slice_index_or fs 0 [])) (F k) ≡ done S L k fs → at L (target L c t) (F c) ≡ done S L c fs
+pub one_done : (S : MakeSpec) (L : Store) (F : Command → ℕ → Outcome) (c k : Command) (t : List ℕ) (fs : List (List ℕ)) → c ≡ k → t ≡ slice_index_or fs 0 [] → at L (target L k (slice_index_or fs 0 [])) (F k) ≡ done S L k fs → at L (target L c t) (F c) ≡ done S L c fs
 one_done S L F c k t fs is e d =
     ap (λ z. at L (target L c z) (F c)) e ∙ ap (λ (z : Command). at L (target L z (slice_index_or fs 0 [])) (F z)) is ∙ d ∙ ap (λ (z : Command). done S L z fs) (sym is)
 
 -- the same of what a command gives
-pub gives_done : {M R : Type 0} (make : MakeOf M R) (p p' : Pool R) (c : Command) (r : Result (Told R) Refusal) (F : Store → Command → ℕ → Outcome) (k : Command) (t : List ℕ) (fs : List (List ℕ)) → Gives make p p' c r (λ L. at L (target L c t) (F L c)) → c ≡ k → t ≡ slice_index_or fs 0 [] → ((L : Store) → at L (target L k (slice_index_or fs 0 [])) (F L k) ≡ done make.spec L k fs) → Gives make p p' c r (λ L. done make.spec L c fs)
+pub gives_done : {M R : Type 0} (make : MakeOf M R) (p p' : Pool R) (c : Command) (r : Result Told Refusal) (F : Store → Command → ℕ → Outcome) (k : Command) (t : List ℕ) (fs : List (List ℕ)) → Gives make p p' c r (λ L. at L (target L c t) (F L c)) → c ≡ k → t ≡ slice_index_or fs 0 [] → ((L : Store) → at L (target L k (slice_index_or fs 0 [])) (F L k) ≡ done make.spec L k fs) → Gives make p p' c r (λ L. done make.spec L c fs)
 gives_done make p p' c r F k t fs h is e d =
     gives_as make p p' c r (λ L. at L (target L c t) (F L c)) (λ L. done make.spec L c fs) h (one_done make.spec (store_of make p) (F (store_of make p)) c k t fs is e (d (store_of make p)))
 
@@ -52,7 +52,7 @@ set_done S L c i t fs rest e d here more =
     ∙ ap (λ b. if b then says L c (shown_record S L i (holding L i)) else sets S L c i (holding L i) (drop 1 fs)) (ne_eqb (length fs) 1 more))
 
 -- an index and more fields set the record
-pub gives_set : {M R : Type 0} (make : MakeOf M R) (p p' : Pool R) (c : Command) (r : Result (Told R) Refusal) (i : ℕ) (t : List ℕ) (fs rest : List (List ℕ)) → Gives make p p' c r (λ L. sets make.spec L c i (holding L i) rest) → t ≡ slice_index_or fs 0 [] → rest ≡ drop 1 fs → target (store_of make p) c t ≡ Some i → (length fs ≡ 1 → ⊥) → Gives make p p' c r (λ L. read_or_set make.spec L c fs)
+pub gives_set : {M R : Type 0} (make : MakeOf M R) (p p' : Pool R) (c : Command) (r : Result Told Refusal) (i : ℕ) (t : List ℕ) (fs rest : List (List ℕ)) → Gives make p p' c r (λ L. sets make.spec L c i (holding L i) rest) → t ≡ slice_index_or fs 0 [] → rest ≡ drop 1 fs → target (store_of make p) c t ≡ Some i → (length fs ≡ 1 → ⊥) → Gives make p p' c r (λ L. read_or_set make.spec L c fs)
 gives_set make p p' c r i t fs rest h e d here more =
     gives_as make p p' c r (λ L. sets make.spec L c i (holding L i) rest) (λ L. read_or_set make.spec L c fs) h (set_done make.spec (store_of make p) c i t fs rest e d here more)
 

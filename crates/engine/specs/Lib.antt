@@ -1,3 +1,3 @@
+pub mod View
 pub mod Gives
 pub mod Chains
-pub mod View

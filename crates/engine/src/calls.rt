@@ -10,11 +10,11 @@ ghost use Rattle.memory.specs.Table.{changed};
 ghost use Rattle.engine.specs.View.{ledger_of};
 
 use crate::hearing::hear;
+use crate::saying::say;
 use crate::session::Session;
 use ledger::answer::CallError;
 use make::Make;
 use memory::Memory;
-use reply::told::say;
 
 // Each of the three calls looks at its buffer first: a closure for what follows would need a longer contract.
 
@@ -39,5 +39,5 @@ pub fn command<M: Make>(
         return Err(CallError::ShortBuffer);
     }
     let answer = hear(memory, session, line);
-    Ok(say::<M>(&answer, out))
+    Ok(say(memory, &answer, out))
 }

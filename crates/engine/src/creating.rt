@@ -26,12 +26,7 @@ use reply::told::Told;
 const MOST_SYSTEMS: u32 = 500;
 
 // A new record at the tail of a chain, which is that of the systems or whose owner is living.
-fn create<M: Make>(
-    memory: &mut Memory<'_, M>,
-    chain: Chain,
-    kind: Kind,
-    system_type: u8,
-) -> Told<M::Record>
+fn create<M: Make>(memory: &mut Memory<'_, M>, chain: Chain, kind: Kind, system_type: u8) -> Told
     requires living { Living (store_of M.Make memory.old.pool).blocks chain }
     ensures { (c : Command) → Gives M.Make memory.old.pool memory.new.pool c (Ok result) (λ L. creates M.Make.spec L c (number chain) kind system_type) }
 {
@@ -42,7 +37,7 @@ fn create<M: Make>(
 pub(crate) fn create_system<M: Make>(
     memory: &mut Memory<'_, M>,
     text: &[u8],
-) -> Result<Told<M::Record>, Refusal>
+) -> Result<Told, Refusal>
     ensures { Gives M.Make memory.old.pool memory.new.pool Csy result (λ L. new_system M.Make.spec L (type_named M.Make.spec.types text.now)) }
 {
     let Some(system_type) = type_named::<M>(text) else {
@@ -61,7 +56,7 @@ pub(crate) fn create_under_system<M: Make>(
     text: &[u8],
     branch: Branch,
     kind: Kind,
-) -> Result<Told<M::Record>, Refusal>
+) -> Result<Told, Refusal>
     ensures { Gives M.Make memory.old.pool memory.new.pool command result (λ L. at L (target L command text.now) (λ i. creates M.Make.spec L command (chain_under branch i) kind 0)) }
 {
     let owner = find_target(memory, command, text)?;
@@ -73,7 +68,7 @@ pub(crate) fn create_below<M: Make>(
     memory: &mut Memory<'_, M>,
     command: Command,
     text: &[u8],
-) -> Result<Told<M::Record>, Refusal>
+) -> Result<Told, Refusal>
     ensures { Gives M.Make memory.old.pool memory.new.pool command result (λ L. at L (target L command text.now) (λ i. creates M.Make.spec L command (chain_under First i) (member_kind (holding L i).kind) 0)) }
 {
     let owner = find_target(memory, command, text)?;

@@ -16,7 +16,7 @@ pub(crate) fn delete<M: Make>(
     memory: &mut Memory<'_, M>,
     command: Command,
     text: &[u8],
-) -> Result<Told<M::Record>, Refusal>
+) -> Result<Told, Refusal>
     ensures { Gives M.Make memory.old.pool memory.new.pool command result (λ L. at L (target L command text.now) (deletes L command)) }
 {
     let x = find_target(memory, command, text)?;

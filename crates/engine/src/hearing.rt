@@ -6,7 +6,9 @@ ghost use Rattle.ledger.specs.Lines.{known, step};
 ghost use Rattle.reply.specs.Told.{said_of, Showable};
 ghost use Rattle.reply.specs.declared.told.Told.TheVariants.{Done};
 ghost use Rattle.engine.specs.Gives.{Hears, said_by};
-ghost use Rattle.engine.specs.View.{ledger_of};
+ghost use Rattle.engine.specs.View.{ledger_of, read_in};
+ghost use Rattle.ledger.specs.Ledger.{living};
+ghost use Rattle.memory.specs.View.{store_of};
 
 use crate::running::carry_out;
 use crate::session::Session;
@@ -19,7 +21,7 @@ use memory::Memory;
 use reply::told::{Reply, Told};
 
 // PRG, EPG: turns the mode, if no field was given.
-fn turn<R>(mode: &mut Mode, to: Mode, count: usize) -> Result<Told<R>, Refusal>
+fn turn(mode: &mut Mode, to: Mode, count: usize) -> Result<Told, Refusal>
     ensures mode { mode.new ≡ (if count == 0 then to else mode.old) }
     ensures value { result ≡ (if count == 0 then Ok Done else Err Wrong) }
 {
@@ -35,9 +37,9 @@ fn run<M: Make>(
     memory: &mut Memory<'_, M>,
     session: &mut Session,
     parts: Parts<'_>,
-) -> Result<Told<M::Record>, Refusal>
-    ensures hears { Hears M.Make memory.old.pool memory.new.pool (said_by M.Make parts.entry.command result) (ledger_of M.Make session.new memory.new.pool) (known M.Make.spec (ledger_of M.Make session.old memory.old.pool) (Some parts.entry.command) (fields_left parts.entry.arguments.fields)) }
-    ensures shows { IfOk result Showable }
+) -> Result<Told, Refusal>
+    ensures hears { Hears M.Make memory.old.pool memory.new.pool (said_by M.Make.spec (store_of M.Make memory.new.pool) parts.entry.command result) (ledger_of M.Make session.new memory.new.pool) (known M.Make.spec (ledger_of M.Make session.old memory.old.pool) (Some parts.entry.command) (fields_left parts.entry.arguments.fields)) }
+    ensures shows { IfOk result (Showable (living (store_of M.Make memory.new.pool))) }
 {
     let command = parts.command;
     let count = parts.arguments.count;
@@ -60,9 +62,9 @@ pub(crate) fn hear<M: Make>(
     memory: &mut Memory<'_, M>,
     session: &mut Session,
     line: &[u8],
-) -> Result<Reply<M::Record>, Refusal>
-    ensures hears { Hears M.Make memory.old.pool memory.new.pool (said_of M.Make result) (ledger_of M.Make session.new memory.new.pool) (step M.Make.spec (ledger_of M.Make session.old memory.old.pool) line.now) }
-    ensures shows { IfOk result (λ x. Showable x.told) }
+) -> Result<Reply, Refusal>
+    ensures hears { Hears M.Make memory.old.pool memory.new.pool (said_of (read_in M.Make.spec (store_of M.Make memory.new.pool)) result) (ledger_of M.Make session.new memory.new.pool) (step M.Make.spec (ledger_of M.Make session.old memory.old.pool) line.now) }
+    ensures shows { IfOk result (λ x. Showable (living (store_of M.Make memory.new.pool)) x.told) }
 {
     let parts = read_line(line)?;
     let told = run(memory, session, parts)?;

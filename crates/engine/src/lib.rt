@@ -7,6 +7,7 @@ mod deleting;
 mod hearing;
 mod records;
 mod running;
+mod saying;
 mod session;
 mod setting;
 mod target;
@@ -14,8 +15,9 @@ mod target;
 pub use calls::command;
 pub use session::Session;
 
-// What testing and writing a line apart builds on. Only `set` requires something, which its two callers have shown.
+// What testing and writing a line apart builds on. Only `set` and `say` require something, which their callers have shown.
 pub use calls::LEAST_BUFFER;
 pub use line::parts::LONGEST_LINE;
+pub use saying::say;
 pub use setting::set;
 pub use target::find_target;

@@ -9,7 +9,6 @@ ghost use Rattle.engine.specs.Gives.{Gives};
 
 use crate::creating::{create_below, create_system, create_under_system};
 use crate::deleting::delete;
-use crate::records::told_of;
 use crate::setting::set;
 use crate::target::find_target;
 use chain::{Branch, Chain};
@@ -25,7 +24,7 @@ fn tell_talkgroups<M: Make>(
     memory: &mut Memory<'_, M>,
     command: Command,
     text: &[u8],
-) -> Result<Told<M::Record>, Refusal>
+) -> Result<Told, Refusal>
     ensures { Gives M.Make memory.old.pool memory.new.pool command result (λ L. at L (target L command text.now) (λ i. says L command (ends (talkgroups L i)))) }
 {
     let owner = find_target(memory, command, text)?;
@@ -37,16 +36,13 @@ fn tell_talkgroups<M: Make>(
 }
 
 // SIN, SIF, GIN, CIN, TIN, TFQ: an index alone reads the record, an index and every field set it.
-fn read_or_set<M: Make>(
-    memory: &mut Memory<'_, M>,
-    parts: Parts<'_>,
-) -> Result<Told<M::Record>, Refusal>
+fn read_or_set<M: Make>(memory: &mut Memory<'_, M>, parts: Parts<'_>) -> Result<Told, Refusal>
     ensures { Gives M.Make memory.old.pool memory.new.pool parts.entry.command result (λ L. read_or_set M.Make.spec L parts.entry.command (fields_left parts.entry.arguments.fields)) }
 {
     let arguments = parts.arguments;
     let x = find_target(memory, parts.command, arguments.first())?;
     if arguments.count == 1 {
-        Ok(told_of(memory, x))
+        Ok(Told::Record(x))
     } else {
         set(memory, x, arguments.rest())
     }
@@ -56,11 +52,11 @@ fn read_or_set<M: Make>(
 pub(crate) fn carry_out<M: Make>(
     memory: &mut Memory<'_, M>,
     parts: Parts<'_>,
-) -> Result<Told<M::Record>, Refusal>
+) -> Result<Told, Refusal>
     ensures { Gives M.Make memory.old.pool memory.new.pool parts.entry.command result (λ L. done M.Make.spec L parts.entry.command (fields_left parts.entry.arguments.fields)) }
 {
     let command = parts.command;
-    let text = parts.arguments.first();
+    let arguments = parts.arguments;
     match command {
         // The mode is turned before, and the store stays.
         Command::Prg | Command::Epg => Ok(Told::Done),
@@ -72,25 +68,30 @@ pub(crate) fn carry_out<M: Make>(
         Command::Rmb => Ok(Told::Count(memory.spare())),
         Command::Sih => Ok(Told::Index(memory.head(Chain::Root))),
         Command::Sit => Ok(Told::Index(memory.tail(Chain::Root))),
-        Command::Csy => create_system(memory, text),
+        Command::Csy => create_system(memory, arguments.first()),
         Command::Agc => {
+            let text = arguments.first();
             create_under_system(memory, command, text, Branch::First, Kind::ChannelGroup)
         }
-        Command::Ast => create_under_system(memory, command, text, Branch::First, Kind::Site),
+        Command::Ast => {
+            let text = arguments.first();
+            create_under_system(memory, command, text, Branch::First, Kind::Site)
+        }
         Command::Agt => {
+            let text = arguments.first();
             create_under_system(memory, command, text, Branch::Second, Kind::TalkgroupGroup)
         }
-        Command::Acc | Command::Act => create_below(memory, command, text),
-        Command::Dsy | Command::Dgr | Command::Dch => delete(memory, command, text),
+        Command::Acc | Command::Act => create_below(memory, command, arguments.first()),
+        Command::Dsy | Command::Dgr | Command::Dch => delete(memory, command, arguments.first()),
         Command::Fwd => {
-            let x = find_target(memory, command, text)?;
+            let x = find_target(memory, command, arguments.first())?;
             Ok(Told::Index(memory.next(x)))
         }
         Command::Rev => {
-            let x = find_target(memory, command, text)?;
+            let x = find_target(memory, command, arguments.first())?;
             Ok(Told::Index(memory.previous(x)))
         }
-        Command::Trn => tell_talkgroups(memory, command, text),
+        Command::Trn => tell_talkgroups(memory, command, arguments.first()),
         Command::Sin | Command::Sif | Command::Gin | Command::Cin | Command::Tin | Command::Tfq =>
             read_or_set(memory, parts),
     }

@@ -20,7 +20,7 @@ pub fn set<M: Make>(
     memory: &mut Memory<'_, M>,
     x: Index,
     fields: Fields<'_>,
-) -> Result<Told<M::Record>, Refusal>
+) -> Result<Told, Refusal>
     requires living { living (store_of M.Make memory.old.pool) x.number ≡ true }
     ensures { (c : Command) → Gives M.Make memory.old.pool memory.new.pool c result (λ L. sets M.Make.spec L c x.number (holding L x.number) (fields_left fields.entry)) }
 {

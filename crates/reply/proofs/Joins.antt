@@ -55,7 +55,7 @@ replied w v u x name ts p q r fits =
     subst (Puts w x) (append_assoc name (listed ts) (13 ∷ []))
     (puts_both w u x (name ++ listed ts) (13 ∷ []) (puts_both w v u name (listed ts) p q (omega (arith, q.end, fits))) r fits)
 
-length-put : (o a : List ℕ) (at : ℕ) → at + length a ≤ length o → length (put o at a) ≡ length o
+pub length-put : (o a : List ℕ) (at : ℕ) → at + length a ≤ length o → length (put o at a) ≡ length o
 length-put o a at h =
     length-append (take at o) _ ∙ ap (λ n. length (take at o) + n) (length-append a _) ∙ omega (arith, length-take-le at o (omega arith), length-drop (at + length a) o)
 

@@ -4,4 +4,5 @@
 pub mod fields;
 pub mod links;
 pub mod pieces;
+pub mod record;
 pub mod told;

@@ -34,7 +34,7 @@ pub enum Links {
 }
 
 // Two indexes, each -1 for no record.
-pub(crate) fn put_pair(w: &mut Writer<'_>, first: Option<Index>, second: Option<Index>)
+pub fn put_pair(w: &mut Writer<'_>, first: Option<Index>, second: Option<Index>)
     requires first { Proper first }
     requires second { Proper second }
     requires room { w.old.at + 12 ≤ length w.old.out.now }

@@ -1,106 +1,21 @@
-// What a line is answered, and how that is written.
-ghost use Rattle.std.specs.Prelude.{◌≡◌, ◌+◌, ◌≤◌, [], ◌∷◌, length, IfOk};
-ghost use Rattle.text.specs.Writing.{Puts};
-ghost use Rattle.ledger.specs.Replies.{lead};
-ghost use Rattle.reply.specs.Linked.{AllProper};
-ghost use Rattle.reply.specs.Lists.{Lists};
-ghost use Rattle.reply.specs.Told.{record_pieces, told_pieces, said_of, Showable};
-ghost use Rattle.reply.specs.Wrote.{Wrote};
+// What a line is answered.
 
-use crate::fields::put_fields;
-use crate::links::{Links, put_links, put_pair};
-use crate::pieces::{put_count, put_index, put_piece};
 use chain::Index;
 use ledger::command::Command;
-use ledger::refusal::Refusal;
-use make::{Kind, Make};
-use text::writer::Writer;
 
-// What a command that is done tells.
+// What a command that is done tells. A record is told by its block: the reply is written while the memory still holds it.
 #[derive(Clone, Copy)]
-pub enum Told<R> {
+pub enum Told {
     Done,
     Index(Option<Index>),
     Count(u32),
     Ends(Option<Index>, Option<Index>),
-    Record(R, Links),
+    Record(Index),
 }
 
 // A command that is done, and what it tells.
 #[derive(Clone, Copy)]
-pub struct Reply<R> {
+pub struct Reply {
     pub command: Command,
-    pub told: Told<R>,
-}
-
-// What stands before the fields: a system's type, a group's letter.
-fn put_lead<M: Make>(w: &mut Writer<'_>, held: &M::Record)
-    requires room { w.old.at + 5 ≤ length w.old.out.now }
-    ensures bound { w.new.at ≤ w.old.at + 5 }
-    ensures texts { Lists w.old w.new (lead M.Make.spec (M.Make.kindof held.now) (M.Make.systemtype held.now)) }
-{
-    match M::kind(held) {
-        Kind::System => put_piece(w, M::type_name(M::system_type(held))),
-        Kind::ChannelGroup => put_piece(w, b"C"),
-        Kind::TalkgroupGroup => put_piece(w, b"T"),
-        Kind::Site | Kind::Channel | Kind::Talkgroup | Kind::TrunkFrequency => {}
-    }
-}
-
-// A record: its lead, its first part, its links and its other fields.
-fn put_record<M: Make>(w: &mut Writer<'_>, record: &M::Record, links: Links)
-    requires proper { AllProper links }
-    requires room { w.old.at + 541 ≤ length w.old.out.now }
-    ensures bound { w.new.at ≤ w.old.at + 541 }
-    ensures texts { Lists w.old w.new (record_pieces M.Make «record».now links) }
-{
-    let kind = M::kind(record);
-    let first = M::first_part(kind);
-    let count = M::field_count(kind);
-    put_lead::<M>(w, record);
-    put_fields::<M>(w, record, 0, first);
-    put_links(w, links);
-    put_fields::<M>(w, record, first, count);
-}
-
-fn put_told<M: Make>(w: &mut Writer<'_>, told: &Told<M::Record>)
-    requires showable { Showable told.now }
-    requires room { w.old.at + 541 ≤ length w.old.out.now }
-    ensures bound { w.new.at ≤ w.old.at + 541 }
-    ensures texts { Lists w.old w.new (told_pieces M.Make told.now) }
-{
-    match told {
-        Told::Done => put_piece(w, b"OK"),
-        Told::Index(index) => put_index(w, *index),
-        Told::Count(n) => put_count(w, *n),
-        Told::Ends(head, tail) => put_pair(w, *head, *tail),
-        Told::Record(record, links) => put_record::<M>(w, record, *links),
-    }
-}
-
-fn put_answer<M: Make>(w: &mut Writer<'_>, answer: &Result<Reply<M::Record>, Refusal>)
-    requires showable { IfOk answer.now (λ x. Showable x.told) }
-    requires room { w.old.at + 600 ≤ length w.old.out.now }
-    ensures { Puts w.old w.new (said_of M.Make answer.now) }
-{
-    match answer {
-        Ok(reply) => {
-            w.put_bytes(reply.command.letters());
-            put_told::<M>(w, &reply.told);
-            w.put_byte(b'\r');
-        }
-        Err(refusal) => w.put_bytes(refusal.text()),
-    }
-}
-
-// Writes the reply to a line at the front of a buffer, and answers how many bytes it is.
-// Room stays a clause: the caller has looked once for the least buffer.
-pub fn say<M: Make>(answer: &Result<Reply<M::Record>, Refusal>, out: &mut [u8]) -> usize
-    requires showable { IfOk answer.now (λ x. Showable x.told) }
-    requires room { 600 ≤ length out.old }
-    ensures { Wrote out.old out.new result (said_of M.Make answer.now) }
-{
-    let mut w = Writer { out, at: 0 };
-    put_answer::<M>(&mut w, answer);
-    w.at
+    pub told: Told,
 }

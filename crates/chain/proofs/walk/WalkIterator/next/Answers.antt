@@ -12,12 +12,12 @@ returns-in_err-x-clause-steps c =
     subst (λ r. YieldsFirstBy (λ x. x.number) coming c.args.self.now r c.args.self.now) (sym c.from_residual.ensures) (none, none)
 
 pub invariant_of-self : goal.invariant_of-self
-invariant_of-self c = record { standing = (walk_next _ c.args.self.now.chains.now.sound _ _ c.in_ok-x.x c.in_ok-x.was c.args.self.now.standing c.next-self.ensures).0 }
+invariant_of-self c = record { standing = (walk_next _ c.args.self.now.chains.now.sound _ _ c.in_ok-x.x c.in_ok-x.was c.args.self.now.standing c.behind-self.ensures).0 }
 
 pub returns-clause-steps : goal.returns-clause-steps
-returns-clause-steps c = (walk_next _ c.args.self.now.chains.now.sound _ _ c.in_ok-x.x c.in_ok-x.was c.args.self.now.standing c.next-self.ensures).1
+returns-clause-steps c = (walk_next _ c.args.self.now.chains.now.sound _ _ c.in_ok-x.x c.in_ok-x.was c.args.self.now.standing c.behind-self.ensures).1
 
 pub returns-clause-goes : goal.returns-clause-goes
 returns-clause-goes c =
-    let fewer = ap length (walk_next _ c.args.self.now.chains.now.sound _ _ c.in_ok-x.x c.in_ok-x.was c.args.self.now.standing c.next-self.ensures).1 in
+    let fewer = ap length (walk_next _ c.args.self.now.chains.now.sound _ _ c.in_ok-x.x c.in_ok-x.was c.args.self.now.standing c.behind-self.ensures).1 in
     search rules

@@ -4,7 +4,7 @@ use Rattle.ledger.specs.Replies.{lead}
 use Rattle.reply.specs.Linked.{pieces_of}
 use Rattle.reply.specs.Lists.{Lists}
 use Rattle.reply.proofs.Joins.{both, parts_joined}
-use Rattle.reply.proofs.told.put_record.Goals as goal
+use Rattle.reply.proofs.record.put_record.Goals as goal
 
 pub returns-clause-texts : goal.returns-clause-texts
 returns-clause-texts g c =
