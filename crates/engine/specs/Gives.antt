@@ -13,20 +13,35 @@ use Rattle.ledger.specs.Replies.{reply}
 use Rattle.ledger.specs.Steps.{Outcome}
 use Rattle.memory.specs.View.{store_of, Spared}
 use Rattle.memory.specs.Table.{changed}
+use Rattle.reply.specs.Brief.{brief_pieces, ShowableBrief}
 use Rattle.reply.specs.Told.{told_pieces, Showable}
+use Rattle.reply.specs.declared.brief.Brief.{Brief}
 use Rattle.reply.specs.declared.told.Told.{Told}
 use Rattle.engine.specs.View.{read_in}
 
--- the reply to a command that told this, or was refused, where L is the store after it
-abbrev pub said_by : MakeSpec → Store → Command → Result Told Refusal → List ℕ
-said_by S L c (Ok t) = reply (name_of c) (told_pieces (read_in S L) t)
-said_by S L c (Err e) = refusal_of e
+-- the reply to a command that told this, or was refused
+abbrev pub said_by : {M R : Type 0} → MakeOf M R → Command → Result (Told R) Refusal → List ℕ
+said_by make c (Ok t) = reply (name_of c) (told_pieces make t)
+said_by make c (Err e) = refusal_of e
 
 -- a command c that told r, or was refused, did to the tables p, which became p', what the outcome says of the store that p stands for;
 -- all that it told can be shown, and no entry past the block count changed
-pub record Gives {M R : Type 0} (make : MakeOf M R) (p p' : Pool R) (c : Command) (r : Result Told Refusal) (x : Store → Outcome) : Type 0 where
-  pub said : said_by make.spec (store_of make p') c r ≡ (x (store_of make p)).said
-  pub shows : IfOk r (Showable (living (store_of make p')))
+pub record Gives {M R : Type 0} (make : MakeOf M R) (p p' : Pool R) (c : Command) (r : Result (Told R) Refusal) (x : Store → Outcome) : Type 0 where
+  pub said : said_by make c r ≡ (x (store_of make p)).said
+  pub shows : IfOk r Showable
+  pub store : store_of make p' ≡ (x (store_of make p)).next
+  pub records : p'.elements.now ≡ changed make p.chains.tables.count (x (store_of make p)).change p.elements.now
+  pub spared : Spared p p'
+
+-- the reply to a command that told this in brief, or was refused, where L is the store after it
+abbrev pub brief_by : MakeSpec → Store → Command → Result Brief Refusal → List ℕ
+brief_by S L c (Ok t) = reply (name_of c) (brief_pieces (read_in S L) t)
+brief_by S L c (Err e) = refusal_of e
+
+-- the same of a command that told r in brief, a record by its block, or was refused
+pub record GivesBrief {M R : Type 0} (make : MakeOf M R) (p p' : Pool R) (c : Command) (r : Result Brief Refusal) (x : Store → Outcome) : Type 0 where
+  pub said : brief_by make.spec (store_of make p') c r ≡ (x (store_of make p)).said
+  pub shows : IfOk r (ShowableBrief (living (store_of make p')))
   pub store : store_of make p' ≡ (x (store_of make p)).next
   pub records : p'.elements.now ≡ changed make p.chains.tables.count (x (store_of make p)).change p.elements.now
   pub spared : Spared p p'

@@ -11,13 +11,14 @@ mod saying;
 mod session;
 mod setting;
 mod target;
+mod telling;
 
 pub use calls::command;
 pub use session::Session;
 
-// What testing and writing a line apart builds on. Only `set` and `say` require something, which their callers have shown.
+// What testing and writing a line apart builds on, and `set`. Only `set_fields`, `set` and `say` require something, which their callers have shown.
 pub use calls::LEAST_BUFFER;
 pub use line::parts::LONGEST_LINE;
 pub use saying::say;
-pub use setting::set;
+pub use setting::{set, set_fields};
 pub use target::find_target;

@@ -1,17 +1,19 @@
-// The links of a record, as a read tells them.
+// A record as a read tells it: its links, its texts.
 ghost use Rattle.std.specs.Prelude.{◌≡◌, ◌<◌, ◌≤◌, true, length};
 ghost use Rattle.chain.specs.Rows.{head_or, last_or};
 ghost use Rattle.chain.specs.Blocks.{next_in, prev_in};
-ghost use Rattle.ledger.specs.Ledger.{number_of, living, members};
-ghost use Rattle.ledger.specs.Replies.{links, sequence, system_over};
+ghost use Rattle.ledger.specs.Ledger.{number_of, living, holding, members};
+ghost use Rattle.ledger.specs.Replies.{links, sequence, system_over, shown_record};
 ghost use Rattle.memory.specs.View.{store_of};
 ghost use Rattle.reply.specs.Shown.{Proper};
 ghost use Rattle.reply.specs.Linked.{pieces_of, AllProper};
+ghost use Rattle.reply.specs.Told.{told_pieces, Showable};
 
 use chain::{Branch, Chain, Index};
 use make::{Kind, Make};
 use memory::Memory;
 use reply::links::{Chained, Links, Neighbours};
+use reply::told::Told;
 
 // The records before and behind `x`.
 fn neighbours_of<M: Make>(memory: &Memory<'_, M>, x: Index) -> Neighbours
@@ -70,4 +72,15 @@ pub(crate) fn links_of<M: Make>(memory: &Memory<'_, M>, x: Index, kind: Kind) ->
             Links::Low(neighbours, system_over(memory, owner), owner)
         }
     }
+}
+
+// The record `x`, as a read tells it.
+pub(crate) fn told_of<M: Make>(memory: &Memory<'_, M>, x: Index) -> Told<M::Record>
+    requires living { living (store_of M.Make memory.now.pool) x.number ≡ true }
+    ensures told { told_pieces M.Make result ≡ shown_record M.Make.spec (store_of M.Make memory.now.pool) x.number (holding (store_of M.Make memory.now.pool) x.number) }
+    ensures shows { Showable result }
+{
+    let record = memory.read(x);
+    let links = links_of(memory, x, M::kind(&record));
+    Told::Record(record, links)
 }

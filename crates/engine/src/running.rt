@@ -5,11 +5,11 @@ ghost use Rattle.ledger.specs.Records.{target};
 ghost use Rattle.ledger.specs.Replies.{ends};
 ghost use Rattle.ledger.specs.Ledger.{talkgroups};
 ghost use Rattle.ledger.specs.Steps.{done, read_or_set, at, says};
-ghost use Rattle.engine.specs.Gives.{Gives};
+ghost use Rattle.engine.specs.Gives.{GivesBrief};
 
 use crate::creating::{create_below, create_system, create_under_system};
 use crate::deleting::delete;
-use crate::setting::set;
+use crate::setting::set_fields;
 use crate::target::find_target;
 use chain::{Branch, Chain};
 use ledger::command::Command;
@@ -17,34 +17,34 @@ use ledger::refusal::Refusal;
 use line::parts::Parts;
 use make::{Kind, Make};
 use memory::Memory;
-use reply::told::Told;
+use reply::brief::Brief;
 
 // TRN: head and tail of the talkgroup groups of the trunked system that the line names.
 fn tell_talkgroups<M: Make>(
     memory: &mut Memory<'_, M>,
     command: Command,
     text: &[u8],
-) -> Result<Told, Refusal>
-    ensures { Gives M.Make memory.old.pool memory.new.pool command result (λ L. at L (target L command text.now) (λ i. says L command (ends (talkgroups L i)))) }
+) -> Result<Brief, Refusal>
+    ensures { GivesBrief M.Make memory.old.pool memory.new.pool command result (λ L. at L (target L command text.now) (λ i. says L command (ends (talkgroups L i)))) }
 {
     let owner = find_target(memory, command, text)?;
     let groups = Chain::Members {
         owner,
         branch: Branch::Second,
     };
-    Ok(Told::Ends(memory.head(groups), memory.tail(groups)))
+    Ok(Brief::Ends(memory.head(groups), memory.tail(groups)))
 }
 
 // SIN, SIF, GIN, CIN, TIN, TFQ: an index alone reads the record, an index and every field set it.
-fn read_or_set<M: Make>(memory: &mut Memory<'_, M>, parts: Parts<'_>) -> Result<Told, Refusal>
-    ensures { Gives M.Make memory.old.pool memory.new.pool parts.entry.command result (λ L. read_or_set M.Make.spec L parts.entry.command (fields_left parts.entry.arguments.fields)) }
+fn read_or_set<M: Make>(memory: &mut Memory<'_, M>, parts: Parts<'_>) -> Result<Brief, Refusal>
+    ensures { GivesBrief M.Make memory.old.pool memory.new.pool parts.entry.command result (λ L. read_or_set M.Make.spec L parts.entry.command (fields_left parts.entry.arguments.fields)) }
 {
     let arguments = parts.arguments;
     let x = find_target(memory, parts.command, arguments.first())?;
     if arguments.count == 1 {
-        Ok(Told::Record(x))
+        Ok(Brief::Record(x))
     } else {
-        set(memory, x, arguments.rest())
+        set_fields(memory, x, arguments.rest())
     }
 }
 
@@ -52,22 +52,22 @@ fn read_or_set<M: Make>(memory: &mut Memory<'_, M>, parts: Parts<'_>) -> Result<
 pub(crate) fn carry_out<M: Make>(
     memory: &mut Memory<'_, M>,
     parts: Parts<'_>,
-) -> Result<Told, Refusal>
-    ensures { Gives M.Make memory.old.pool memory.new.pool parts.entry.command result (λ L. done M.Make.spec L parts.entry.command (fields_left parts.entry.arguments.fields)) }
+) -> Result<Brief, Refusal>
+    ensures { GivesBrief M.Make memory.old.pool memory.new.pool parts.entry.command result (λ L. done M.Make.spec L parts.entry.command (fields_left parts.entry.arguments.fields)) }
 {
     let command = parts.command;
     let arguments = parts.arguments;
     match command {
         // The mode is turned before, and the store stays.
-        Command::Prg | Command::Epg => Ok(Told::Done),
+        Command::Prg | Command::Epg => Ok(Brief::Done),
         Command::Clr => {
             memory.clear();
-            Ok(Told::Done)
+            Ok(Brief::Done)
         }
-        Command::Sct => Ok(Told::Count(memory.system_count())),
-        Command::Rmb => Ok(Told::Count(memory.spare())),
-        Command::Sih => Ok(Told::Index(memory.head(Chain::Root))),
-        Command::Sit => Ok(Told::Index(memory.tail(Chain::Root))),
+        Command::Sct => Ok(Brief::Count(memory.system_count())),
+        Command::Rmb => Ok(Brief::Count(memory.spare())),
+        Command::Sih => Ok(Brief::Index(memory.head(Chain::Root))),
+        Command::Sit => Ok(Brief::Index(memory.tail(Chain::Root))),
         Command::Csy => create_system(memory, arguments.first()),
         Command::Agc => {
             let text = arguments.first();
@@ -85,11 +85,11 @@ pub(crate) fn carry_out<M: Make>(
         Command::Dsy | Command::Dgr | Command::Dch => delete(memory, command, arguments.first()),
         Command::Fwd => {
             let x = find_target(memory, command, arguments.first())?;
-            Ok(Told::Index(memory.next(x)))
+            Ok(Brief::Index(memory.next(x)))
         }
         Command::Rev => {
             let x = find_target(memory, command, arguments.first())?;
-            Ok(Told::Index(memory.previous(x)))
+            Ok(Brief::Index(memory.previous(x)))
         }
         Command::Trn => tell_talkgroups(memory, command, arguments.first()),
         Command::Sin | Command::Sif | Command::Gin | Command::Cin | Command::Tin | Command::Tfq =>

@@ -4,7 +4,7 @@ ghost use Rattle.text.specs.Writing.{Puts};
 ghost use Rattle.ledger.specs.Ledger.{living};
 ghost use Rattle.memory.specs.View.{store_of};
 ghost use Rattle.reply.specs.Lists.{Lists};
-ghost use Rattle.reply.specs.Told.{told_pieces, said_of, Showable};
+ghost use Rattle.reply.specs.Brief.{brief_pieces, said_in_brief, ShowableBrief};
 ghost use Rattle.reply.specs.Wrote.{Wrote};
 ghost use Rattle.engine.specs.View.{read_in};
 
@@ -13,10 +13,10 @@ use chain::Index;
 use ledger::refusal::Refusal;
 use make::Make;
 use memory::Memory;
+use reply::brief::{Brief, BriefReply};
 use reply::links::put_pair;
 use reply::pieces::{put_count, put_index, put_piece};
 use reply::record::put_record;
-use reply::told::{Reply, Told};
 use text::writer::Writer;
 
 // The record in block `x`, which is living.
@@ -31,25 +31,29 @@ fn put_living<M: Make>(memory: &Memory<'_, M>, w: &mut Writer<'_>, x: Index)
     put_record::<M>(w, &record, links);
 }
 
-fn put_told<M: Make>(memory: &Memory<'_, M>, w: &mut Writer<'_>, told: Told)
-    requires showable { Showable (living (store_of M.Make memory.now.pool)) told }
+fn put_told<M: Make>(memory: &Memory<'_, M>, w: &mut Writer<'_>, told: Brief)
+    requires showable { ShowableBrief (living (store_of M.Make memory.now.pool)) told }
     requires room { w.old.at + 541 ≤ length w.old.out.now }
     ensures bound { w.new.at ≤ w.old.at + 541 }
-    ensures texts { Lists w.old w.new (told_pieces (read_in M.Make.spec (store_of M.Make memory.now.pool)) told) }
+    ensures texts { Lists w.old w.new (brief_pieces (read_in M.Make.spec (store_of M.Make memory.now.pool)) told) }
 {
     match told {
-        Told::Done => put_piece(w, b"OK"),
-        Told::Index(index) => put_index(w, index),
-        Told::Count(n) => put_count(w, n),
-        Told::Ends(head, tail) => put_pair(w, head, tail),
-        Told::Record(x) => put_living(memory, w, x),
+        Brief::Done => put_piece(w, b"OK"),
+        Brief::Index(index) => put_index(w, index),
+        Brief::Count(n) => put_count(w, n),
+        Brief::Ends(head, tail) => put_pair(w, head, tail),
+        Brief::Record(x) => put_living(memory, w, x),
     }
 }
 
-fn put_answer<M: Make>(memory: &Memory<'_, M>, w: &mut Writer<'_>, answer: &Result<Reply, Refusal>)
-    requires showable { IfOk answer.now (λ x. Showable (living (store_of M.Make memory.now.pool)) x.told) }
+fn put_answer<M: Make>(
+    memory: &Memory<'_, M>,
+    w: &mut Writer<'_>,
+    answer: &Result<BriefReply, Refusal>,
+)
+    requires showable { IfOk answer.now (λ x. ShowableBrief (living (store_of M.Make memory.now.pool)) x.told) }
     requires room { w.old.at + 600 ≤ length w.old.out.now }
-    ensures { Puts w.old w.new (said_of (read_in M.Make.spec (store_of M.Make memory.now.pool)) answer.now) }
+    ensures { Puts w.old w.new (said_in_brief (read_in M.Make.spec (store_of M.Make memory.now.pool)) answer.now) }
 {
     match answer {
         Ok(reply) => {
@@ -65,12 +69,12 @@ fn put_answer<M: Make>(memory: &Memory<'_, M>, w: &mut Writer<'_>, answer: &Resu
 // Room stays a clause: the caller has looked once for the least buffer.
 pub fn say<M: Make>(
     memory: &Memory<'_, M>,
-    answer: &Result<Reply, Refusal>,
+    answer: &Result<BriefReply, Refusal>,
     out: &mut [u8],
 ) -> usize
-    requires showable { IfOk answer.now (λ x. Showable (living (store_of M.Make memory.now.pool)) x.told) }
+    requires showable { IfOk answer.now (λ x. ShowableBrief (living (store_of M.Make memory.now.pool)) x.told) }
     requires room { 600 ≤ length out.old }
-    ensures { Wrote out.old out.new result (said_of (read_in M.Make.spec (store_of M.Make memory.now.pool)) answer.now) }
+    ensures { Wrote out.old out.new result (said_in_brief (read_in M.Make.spec (store_of M.Make memory.now.pool)) answer.now) }
 {
     let mut w = Writer { out, at: 0 };
     put_answer(memory, &mut w, answer);

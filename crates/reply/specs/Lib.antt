@@ -3,3 +3,4 @@ pub mod Wrote
 pub mod Lists
 pub mod Linked
 pub mod Told
+pub mod Brief

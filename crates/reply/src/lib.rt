@@ -1,6 +1,7 @@
 // Replies, written into the buffer that comes with a line.
 #![tactic(auto)]
 
+pub mod brief;
 pub mod fields;
 pub mod links;
 pub mod pieces;

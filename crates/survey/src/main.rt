@@ -8,6 +8,9 @@ use report::report;
 use std::io;
 use std::io::{Read, Write};
 
+#[cfg(test)]
+mod tests;
+
 // How many blocks the memory has.
 const BLOCKS: usize = 200;
 

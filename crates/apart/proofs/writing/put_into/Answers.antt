@@ -4,7 +4,7 @@ use Rattle.memory.specs.View.{store_of}
 use Rattle.ledger.specs.Ledger.{holding}
 use Rattle.ledger.specs.Steps.{sets}
 use Rattle.apart.specs.Testing.{put_into}
-use Rattle.engine.proofs.Outcomes.{gives_as}
+use Rattle.engine.proofs.Outcomes.{brief_as}
 use Rattle.apart.proofs.writing.put_into.Goals as goal
 
 pub returns : goal.returns
@@ -16,4 +16,4 @@ returns g c =
     let rest = fields_left c.rest.result in
     let fs = fields_left c.args.parts.arguments.fields in
     let same : sets S L k x (holding L x) rest ≡ put_into S L k x c.args.found.kind fs = search rules in
-    gives_as _ _ _ k _ (λ L. sets S L k x (holding L x) rest) (λ L. put_into S L k x c.args.found.kind fs) (c.set.ensures k) same
+    brief_as _ _ _ k _ (λ L. sets S L k x (holding L x) rest) (λ L. put_into S L k x c.args.found.kind fs) (c.set_fields.ensures k) same
