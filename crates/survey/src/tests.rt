@@ -18,7 +18,7 @@ fn a_record_is_set(rt: HostRuntime) -> Result<(), Fail> {
     let mut records = [Bcd996t::fresh(Kind::System, 0); 3];
     let mut memory: Memory<Bcd996t> = Memory::open(&mut links, &mut records);
     let mut session = Session { mode: Mode::On };
-    let mut out = [7u8; 601];
+    let mut out = [7u8; 600];
     let Some(x) = memory.create(Chain::Root, Kind::System, 0) else {
         return Err(Fail::new("no block is free"));
     };
@@ -41,7 +41,7 @@ fn a_record_is_set(rt: HostRuntime) -> Result<(), Fail> {
     }
     // One field is not legal, and so none is written.
     match set(&mut memory, x, Fields::of(b"Road 8,100,,,")) {
-        Ok(_) => return Err(Fail::new("a quick key has two digits")),
+        Ok(_) => return Err(Fail::new("a quick key is at most 99")),
         Err(refusal) => assert!(rt; refusal == Refusal::Wrong),
     }
     assert_eq!(rt;
@@ -89,10 +89,16 @@ fn what_is_no_record_is_told(rt: HostRuntime) {
     assert!(rt; &out[0..9] == b"RMB,199\r\x07".as_slice());
     let ends = Ok(Reply {
         command: Command::Trn,
-        told: Told::Ends(None, None),
+        told: Told::Ends(Index::new(12), None),
     });
     assert_eq!(rt; say::<Bcd996t>(&ends, &mut out), 10);
-    assert!(rt; &out[0..11] == b"TRN,-1,-1\r\x07".as_slice());
+    assert!(rt; &out[0..11] == b"TRN,12,-1\r\x07".as_slice());
+    let index = Ok(Reply {
+        command: Command::Acc,
+        told: Told::Index(Index::new(45000)),
+    });
+    assert_eq!(rt; say::<Bcd996t>(&index, &mut out), 10);
+    assert!(rt; &out[0..11] == b"ACC,45000\r\x07".as_slice());
     assert_eq!(rt; say::<Bcd996t>(&Err(Refusal::ModeOff), &mut out), 3);
     assert!(rt; &out[0..4] == b"NG\r,".as_slice());
 }
