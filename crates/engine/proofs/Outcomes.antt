@@ -1,5 +1,5 @@
 -- Outcomes, put one for another. Assumes nothing.
-use Rattle.std.proofs.Common.{◌≡◌, ℕ, if◌then◌else◌, ◌==◌, List, [], length, slice_index_or, drop, Some, Option, Ok, Err, Result, IfOk, sym, refl, ap, ◌∙◌, subst}
+use Rattle.std.proofs.Common.{◌≡◌, ℕ, if◌then◌else◌, ◌==◌, List, [], length, slice_index_or, drop, Some, Option, Result, sym, refl, ap, ◌∙◌, subst}
 use Rattle.std.proofs.lemmas.Bool.{ne_eqb}
 use Rattle.make.specs.declared.rules.Make.{Ghosts as MakeOf}
 use Rattle.make.specs.Data.{MakeSpec}
@@ -12,19 +12,15 @@ use Rattle.pool.specs.declared.pool.Pool.{Pool}
 use Rattle.ledger.specs.declared.command.Command.{Command}
 use Rattle.ledger.specs.declared.refusal.Refusal.{Refusal}
 use Rattle.ledger.specs.Ledger.{Store}
-use Rattle.ledger.specs.Ledger.{holding, living}
-use Rattle.ledger.specs.Commands.{name_of}
+use Rattle.ledger.specs.Ledger.{holding}
 use Rattle.ledger.specs.Records.{target}
-use Rattle.ledger.specs.Replies.{shown_record, reply}
+use Rattle.ledger.specs.Replies.{shown_record}
 use Rattle.ledger.specs.Steps.{Outcome, at, says, sets, read_or_set, done}
 use Rattle.memory.specs.View.{store_of}
-use Rattle.reply.specs.Brief.{brief_pieces, ShowableBrief}
-use Rattle.reply.specs.Told.{told_pieces, Showable}
 use Rattle.reply.specs.declared.brief.Brief.{Brief}
 use Rattle.reply.specs.declared.told.Told.{Told}
 use Rattle.engine.specs.Chains.{chain_under}
-use Rattle.engine.specs.Gives.{Gives, GivesBrief, brief_by}
-use Rattle.engine.specs.View.{read_in}
+use Rattle.engine.specs.Gives.{Gives, GivesBrief}
 
 module _ {M R : Type 0} (make : MakeOf M R) (p p' : Pool R) (c : Command) (r : Result (Told R) Refusal) where
   -- what it gives by one account, it gives by another that says the same of this store
@@ -83,17 +79,6 @@ gives_set make p p' c r i t fs rest h e d here more =
 pub brief_set : {M R : Type 0} (make : MakeOf M R) (p p' : Pool R) (c : Command) (r : Result Brief Refusal) (i : ℕ) (t : List ℕ) (fs rest : List (List ℕ)) → GivesBrief make p p' c r (λ L. sets make.spec L c i (holding L i) rest) → t ≡ slice_index_or fs 0 [] → rest ≡ drop 1 fs → target (store_of make p) c t ≡ Some i → (length fs ≡ 1 → ⊥) → GivesBrief make p p' c r (λ L. read_or_set make.spec L c fs)
 brief_set make p p' c r i t fs rest h e d here more =
     brief_as make p p' c r (λ L. sets make.spec L c i (holding L i) rest) (λ L. read_or_set make.spec L c fs) h (set_done make.spec (store_of make p) c i t fs rest e d here more)
-
--- what is told in brief, told in full: the same outcome
-module _ {M R : Type 0} (make : MakeOf M R) (p p' : Pool R) (c : Command) (r : Result Brief Refusal) (x : Store → Outcome) (h : GivesBrief make p p' c r x) where
-  pub told_showable : (b : Brief) → r ≡ Ok b → ShowableBrief (living (store_of make p')) b
-  told_showable b e = subst (λ (z : Result Brief Refusal). IfOk z (ShowableBrief (living (store_of make p')))) e h.shows
-
-  pub told_in_full : (b : Brief) (t : Told R) → r ≡ Ok b → told_pieces make t ≡ brief_pieces (read_in make.spec (store_of make p')) b → Showable t → Gives make p p' c (Ok t) x
-  told_in_full b t e same shows = record { said = ap (reply (name_of c)) same ∙ ap (brief_by make.spec (store_of make p') c) (sym e) ∙ h.said; shows = shows; store = h.store; records = h.records; spared = h.spared }
-
-  pub refused_in_full : (e : Refusal) → r ≡ Err e → Gives make p p' c (Err e) x
-  refused_in_full e is = record { said = ap (brief_by make.spec (store_of make p') c) (sym is) ∙ h.said; shows = tt; store = h.store; records = h.records; spared = h.spared }
 
 -- a chain of members, by number
 pub chain_under_is : (o : Index) (b : Branch) → number (Members o b) ≡ chain_under b o.number

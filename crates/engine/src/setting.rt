@@ -44,6 +44,6 @@ pub fn set<M: Make>(
     requires living { living (store_of M.Make memory.old.pool) x.number ≡ true }
     ensures { (c : Command) → Gives M.Make memory.old.pool memory.new.pool c result (λ L. sets M.Make.spec L c x.number (holding L x.number) (fields_left fields.entry)) }
 {
-    let brief = set_fields(memory, x, fields)?;
-    Ok(in_full(memory, brief))
+    let answer = set_fields(memory, x, fields);
+    in_full(memory, answer)
 }
