@@ -16,8 +16,7 @@ mod telling;
 pub use calls::command;
 pub use session::Session;
 
-// What testing and writing a line apart builds on, and `set`, whose answer a caller tells in full. Only `set_fields`, `set` and `say` require something, which their
-// callers show.
+// What testing and writing a line apart builds on, and `set`, which tells its answer in full. Only `set_fields`, `set` and `say` require something of their callers.
 pub use calls::LEAST_BUFFER;
 pub use line::parts::LONGEST_LINE;
 pub use saying::say;

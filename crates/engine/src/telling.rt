@@ -1,5 +1,5 @@
-// What a command told in brief, told in full: a record with its texts and links in place of its block.
-ghost use Rattle.std.specs.Prelude.{◌≡◌, true, IfOk};
+// From what a command tells in brief to what it tells in full.
+ghost use Rattle.std.specs.Prelude.{◌≡◌, IfOk};
 ghost use Rattle.ledger.specs.Ledger.{living};
 ghost use Rattle.ledger.specs.declared.command.Command.{Command};
 ghost use Rattle.memory.specs.View.{store_of};
@@ -14,6 +14,7 @@ use memory::Memory;
 use reply::brief::Brief;
 use reply::told::Told;
 
+// The same answer in full: a record with its texts and links, as they stand in the memory, in place of its block.
 pub(crate) fn in_full<M: Make>(
     memory: &Memory<'_, M>,
     answer: Result<Brief, Refusal>,

@@ -1,4 +1,4 @@
-// Calls that no program here makes, on a memory of this make: a record is set, and what a line is answered is told with the record itself.
+// Calls that no program here makes: a record of this make is set, and replies are written from what is told in full.
 use bcd996t::Bcd996t;
 use chain::{Chain, Index, Link};
 use engine::{Session, command, set};
